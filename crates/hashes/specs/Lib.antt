@@ -1,0 +1,4 @@
+pub mod Digests
+pub mod Running
+pub mod BigEndian
+pub mod Fnv

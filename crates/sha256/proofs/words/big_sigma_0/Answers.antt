@@ -1,0 +1,7 @@
+use mathlib.Core.Path.{refl}
+use Rattle.sha256.specs.Words.{Σ0}
+use Rattle.sha256.proofs.words.big_sigma_0.Needs as need
+
+pub returns : need.returns
+unfolding Σ0
+returns c = cc

@@ -1,0 +1,2 @@
+// What every reader of a text needs: hex, numbers, lines and fields.
+pub mod hex;
