@@ -105,10 +105,6 @@ rounds-are s s0 s1 s2 s3 k0 k1 k2 k3 w0 w1 w2 w3 l0 l1 l2 e0 e1 e2 e3 =
     let d = rounds-append s1 k2 k3 w2 w3 l2 in
     cc
 
--- a constant and a word may be added up first
-pub add-shift : (x k w : ℕ) → ((x + k) % 2 ^ 32 + w) % 2 ^ 32 ≡ (x + (w + k) % 2 ^ 32) % 2 ^ 32
-add-shift x k w = omega arith
-
 σ1-zero : σ1 0 ≡ 0
 unfolding σ1
 σ1-zero = refl
