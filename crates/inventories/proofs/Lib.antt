@@ -1,0 +1,2 @@
+pub mod EntryLines
+pub mod Told
