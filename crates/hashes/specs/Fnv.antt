@@ -5,6 +5,7 @@ use mathlib.Core.List.{List}
 use lib.Bits.{bitXor}
 use Rattle.std.specs.Iters.{folded}
 use Rattle.hashes.specs.BigEndian.{big-endian}
+use Rattle.hashes.specs.Traces.{OneTrace}
 
 abbrev pub fnv-basis : ℕ
 fnv-basis = 14695981039346656037
@@ -27,3 +28,7 @@ fnv-from value bytes = big-endian 8 (fnv-value value bytes)
 -- the digest of a string
 abbrev pub fnv1a : List ℕ → List ℕ
 fnv1a bytes = fnv-from fnv-basis bytes
+
+-- the values of every string, from the basis on, byte by byte: there is one such list, and its last value is the digest's
+abbrev pub FnvLaw : Type 0
+FnvLaw = (bytes : List ℕ) → OneTrace fnv-step fnv-basis bytes (fnv-value fnv-basis bytes)

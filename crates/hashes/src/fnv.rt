@@ -2,7 +2,7 @@ ghost use mathlib.Core.Path.{_≡_};
 ghost use mathlib.Core.List.{[]};
 ghost use Rattle.hashes.specs.BigEndian.{number-of};
 ghost use Rattle.hashes.specs.Digests.{digest-bytes};
-ghost use Rattle.hashes.specs.Fnv.{fnv1a, fnv-from, fnv-step};
+ghost use Rattle.hashes.specs.Fnv.{FnvLaw, fnv-from, fnv-step, fnv1a};
 use crate::RunningHash;
 use crate::digest::Digest;
 
@@ -48,10 +48,12 @@ pub impl RunningHash for Fnv1a64 as Fnv1a64Hash {
         self.value = value;
     }
 
-    // As a number, with the highest byte first, the digest is the value.
+    // As a number, with the highest byte first, the digest is the value. The law says of every string which values it
+    // goes through.
     fn digest(&self) -> Digest
         ensures digest { λ r. ⌜ digest-bytes r ≡ fnv-from (now (self .entry) .value) [] ⌝ }
         ensures number { λ r. ⌜ number-of (digest-bytes r) ≡ now (self .entry) .value ⌝ }
+        ensures values { λ _. ⌜ FnvLaw ⌝ }
     {
         Digest::new(&self.value.to_be_bytes()).unwrap()
     }

@@ -4,9 +4,10 @@ pub mod display;
 pub mod fnv;
 
 ghost use mathlib.Core.Path.{_≡_};
-ghost use mathlib.Core.List.{List, []};
+ghost use mathlib.Core.List.{List, [], map};
 ghost use Prim.Native.Nat.{ℕ, _≤_};
 ghost use lib.ListN.{length};
+ghost use Rattle.std.specs.Written.{joined};
 ghost use Rattle.hashes.specs.Digests.{digest-bytes};
 ghost use Rattle.hashes.specs.Running.{after};
 use digest::Digest;
@@ -23,6 +24,7 @@ pub trait RunningHash: Copy {
     // the digest for each list of bytes still to come
     ghost meaning: { Self → List ℕ → List ℕ };
 
+    // a digest has 1 to 32 bytes, and every digest of a hash has as many
     law some: { 1 ≤ width };
 
     law few: { width ≤ 32 };
@@ -48,11 +50,22 @@ pub trait RunningHash: Copy {
         ensures { λ r. ⌜ digest-bytes r ≡ meaning (now (self .entry)) [] ⌝ };
 }
 
+// The digest of a string that is handed over in pieces, however it is cut.
+pub fn digest_of_pieces<H: RunningHash>(pieces: &[&[u8]]) -> Digest
+    ensures { λ r. ⌜ digest-bytes r ≡ H·RunningHash .start (joined (map now (now (pieces .entry)))) ⌝ }
+{
+    let mut hash = H::fresh();
+    for piece in pieces {
+        hash.absorb(piece);
+    }
+    hash.digest()
+}
+
 // The digest of a string, taken in one piece.
 pub fn digest_of<H: RunningHash>(bytes: &[u8]) -> Digest
     ensures { λ r. ⌜ digest-bytes r ≡ H·RunningHash .start (now (bytes .entry)) ⌝ }
 {
-    let mut h = H::fresh();
-    h.absorb(bytes);
-    h.digest()
+    let mut hash = H::fresh();
+    hash.absorb(bytes);
+    hash.digest()
 }

@@ -5,11 +5,16 @@ use mathlib.Core.Logic.{⊎-elim}
 use Rattle.std.proofs.shelf.Tests.{cases-eq, cases-lt}
 use Prim.Native.Nat.{ℕ, zero, suc, _+_, _-_, _*_, _^_, _≤_, _<_}
 use native.Mathlib.Omega.{arith}
-use lib.ListN.{length, getD}
+use lib.ListN.{length, getD, drop}
+use Rattle.std.specs.Iters.{counting, folded}
+use Rattle.hashes.specs.Traces.{OneTrace}
+use Rattle.hashes.proofs.Steps.{one-trace}
 use Rattle.std.proofs.shelf.Lists.{ext-getD, getD-append-left, getD-push}
 use Rattle.sha256.specs.Words.{plus, σ0, σ1}
 use Rattle.sha256.specs.Schedule.{word, words, next, grow, grown, schedule, Schedule, ScheduleLaw}
-use Rattle.sha256.proofs.Steps.{length-grow}
+use Rattle.sha256.specs.Compression.{RoundsLaw, constants, round, rounds}
+use Rattle.sha256.specs.declared.compression.State.{State}
+use Rattle.sha256.proofs.Steps.{length-grow, round-step, rounds-done}
 
 pub length-words : (n : ℕ) (bytes : List ℕ) → length bytes ≡ 4 * n → length (words bytes) ≡ n
 length-words n [] e = omega arith
@@ -112,3 +117,22 @@ module _ (block ws vs : List ℕ) (p : Schedule block ws) (q : Schedule block vs
 
 pub schedule-law : ScheduleLaw
 schedule-law block e = (scheduled block e, λ ws p. only block ws (schedule block) p (scheduled block e))
+
+-- the rounds from i on, one by one
+rounds-fold : (ks ws : List ℕ) (n i : ℕ) (s : State) → i + n ≡ length ks → i + n ≡ length ws
+    → folded (λ v t. round v (getD ks t 0) (getD ws t 0)) s (counting i n) ≡ rounds s (drop i ks) (drop i ws)
+rounds-fold ks ws zero i s hk hw = sym (rounds-done ks ws i s (omega arith))
+rounds-fold ks ws (suc n) i s hk hw =
+    rounds-fold ks ws n (i + 1) (round s (getD ks i 0) (getD ws i 0)) (omega arith) (omega arith)
+    ∙ sym (round-step ks ws i s (round s (getD ks i 0) (getD ws i 0)) (omega arith) (omega arith) refl)
+
+length-constants : 64 ≡ length constants
+unfolding constants
+length-constants = refl
+
+pub rounds-law : RoundsLaw
+rounds-law s block e =
+    let ws : List ℕ = schedule block in
+    let rule : State → ℕ → State = λ v t. round v (getD constants t 0) (getD ws t 0) in
+    let sixty-four : 0 + 64 ≡ length constants = length-constants in
+    subst (OneTrace rule s (counting 0 64)) (rounds-fold constants ws 64 0 s sixty-four (sym (scheduled block e .long))) (one-trace rule s (counting 0 64))

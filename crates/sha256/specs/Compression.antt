@@ -1,6 +1,10 @@
 -- The hash computation of one block (FIPS 180-4, 4.2.2 and 6.2.2, steps 2 to 4).
+use mathlib.Core.Path.{_≡_}
 use Prim.Native.Nat.{ℕ}
 use mathlib.Core.List.{List, [], _∷_}
+use lib.ListN.{length, getD}
+use Rattle.std.specs.Iters.{counting}
+use Rattle.hashes.specs.Traces.{OneTrace}
 use Rattle.sha256.specs.Words.{plus, Ch, Maj, Σ0, Σ1}
 use Rattle.sha256.specs.Schedule.{schedule}
 use Rattle.sha256.specs.declared.compression.State.{State}
@@ -23,8 +27,9 @@ rounds s [] ws = s
 rounds s (k ∷ ks) [] = s
 rounds s (k ∷ ks) (w ∷ ws) = rounds (round s k w) ks ws
 
-unfoldable pub sum : State → State → State
-sum s t =
+-- two hash values, word by word
+unfoldable pub state-sum : State → State → State
+state-sum s t =
     record { a = plus (s .a) (t .a); b = plus (s .b) (t .b); c = plus (s .c) (t .c); d = plus (s .d) (t .d); e = plus (s .e) (t .e); f = plus (s .f) (t .f); g = plus (s .g) (t .g); h = plus (s .h) (t .h) }
 
 unfoldable pub constants : List ℕ
@@ -41,4 +46,11 @@ constants =
 
 -- the hash value after one block more
 unfoldable pub compressed : State → List ℕ → State
-compressed s block = sum s (rounds s constants (schedule block))
+compressed s block = state-sum s (rounds s constants (schedule block))
+
+-- the working variables of every block of 64 bytes: before the first round those of the hash value, and after the round t
+-- what that round makes with the constant t and the word t of the schedule
+abbrev pub RoundsLaw : Type 0
+RoundsLaw =
+    (s : State) (block : List ℕ) → length block ≡ 64
+    → OneTrace (λ v t. round v (getD constants t 0) (getD (schedule block) t 0)) s (counting 0 64) (rounds s constants (schedule block))

@@ -8,6 +8,7 @@ use Rattle.std.specs.Vectors.{chunked}
 use Rattle.std.specs.Written.{joined}
 use Rattle.std.specs.shelf.Lists.{All}
 use Rattle.hashes.specs.BigEndian.{big-endian}
+use Rattle.hashes.specs.Traces.{OneTrace}
 use Rattle.sha256.specs.Compression.{compressed}
 use Rattle.sha256.specs.Padding.{padded}
 use Rattle.sha256.specs.declared.compression.State.{State}
@@ -43,6 +44,13 @@ pub record Parsed (bytes : List ℕ) (bs : List (List ℕ)) : Type 0 where
   pub whole : joined bs ≡ bytes
   pub each : All (λ b. length b ≡ 64) bs
 
--- every padded message is cut into its blocks
+-- every padded message is cut into these blocks, and in no other way
 abbrev pub BlocksLaw : Type 0
-BlocksLaw = (message : List ℕ) → Parsed (padded message) (blocks (padded message))
+BlocksLaw =
+    (message : List ℕ) → Parsed (padded message) (blocks (padded message))
+    × ((bs : List (List ℕ)) → Parsed (padded message) bs → bs ≡ blocks (padded message))
+
+-- the hash values of every message: the initial one, and after each block what the block makes of the one before; the last
+-- of them gives the digest
+abbrev pub ChainLaw : Type 0
+ChainLaw = (message : List ℕ) → OneTrace compressed initial (blocks (padded message)) (over initial (padded message))

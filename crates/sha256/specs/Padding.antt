@@ -3,6 +3,7 @@ use mathlib.Core.Path.{_≡_}
 use Prim.Native.Nat.{ℕ, zero, suc, _+_, _-_, _*_, _/_, _%_, _^_, _<_}
 use mathlib.Core.List.{List, [], _∷_, _++_}
 use lib.ListN.{length, replicate}
+use Rattle.std.specs.shelf.Lists.{All}
 use Rattle.hashes.specs.BigEndian.{big-endian}
 
 -- how many zero bytes make n bytes, one byte more, these and eight more a multiple of 64
@@ -42,8 +43,9 @@ pub record PaddedBits (message p : List ℕ) : Type 0 where
   pub fills : (length (bits message) + 1 + k) % 512 ≡ 448
   pub parts : bits p ≡ bits message ++ (1 ∷ (replicate k 0 ++ binary 64 (length (bits message) % 2 ^ 64)))
 
--- every message has this padding, and in bytes no other
+-- every message has this padding and no other, in bytes and in the bits of bytes
 abbrev pub PaddingLaw : Type 0
 PaddingLaw =
     (message : List ℕ) → PaddedBytes message (padded message) × PaddedBits message (padded message)
     × ((p : List ℕ) → PaddedBytes message p → p ≡ padded message)
+    × (All (λ b. b < 256) message → (p : List ℕ) → All (λ b. b < 256) p → PaddedBits message p → p ≡ padded message)

@@ -15,7 +15,7 @@ undivided n zero = true
 undivided n (suc zero) = true
 undivided n (suc (suc k)) = not (eqb (n % suc (suc k)) 0) && undivided n (suc k)
 
--- the primes among the next k numbers, from n on
+-- the primes among the k numbers after n
 abbrev pub primes-from : ℕ → ℕ → List ℕ
 primes-from n zero = []
 primes-from n (suc k) = cond (undivided (suc n) n) (suc n ∷ primes-from (suc n) k) (primes-from (suc n) k)

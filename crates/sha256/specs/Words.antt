@@ -1,6 +1,5 @@
 -- The functions on words of 32 bits (FIPS 180-4, 3.2 and 4.1.2).
-use Prim.Native.Nat.{ℕ, zero, suc, _+_, _-_, _*_, _/_, _%_, _^_}
-use mathlib.Core.List.{List, [], _∷_, _++_}
+use Prim.Native.Nat.{ℕ, _+_, _-_, _*_, _/_, _%_, _^_}
 use lib.Bits.{bitAnd, bitOr, bitXor}
 
 -- addition modulo 2^32

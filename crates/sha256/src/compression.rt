@@ -2,7 +2,7 @@
 ghost use mathlib.Core.Path.{_≡_};
 ghost use mathlib.Core.List.{_++_};
 ghost use Prim.Native.Nat.{ℕ, _+_, _%_};
-ghost use Rattle.sha256.specs.Compression.{round, rounds, sum, compressed};
+ghost use Rattle.sha256.specs.Compression.{round, rounds, state-sum, compressed};
 ghost use Rattle.sha256.specs.Schedule.{grown};
 ghost use Rattle.sha256.specs.Windows.{window-words};
 use crate::schedule::Window;
@@ -59,7 +59,7 @@ fn four_rounds<const Q: usize, const N: usize>(s: State, k: [u32; 4], x: u32x4) 
 }
 
 fn added(s: State, t: State) -> State
-    ensures { λ r. ⌜ r ≡ sum s t ⌝ }
+    ensures { λ r. ⌜ r ≡ state-sum s t ⌝ }
 {
     State {
         a: s.a.wrapping_add(t.a),

@@ -11,7 +11,7 @@ pub fn choice(x: u32, y: u32, z: u32) -> u32
     z ^ (x & (y ^ z))
 }
 
-// `x ^ y` is the next round's `y ^ z`, so it is worked out once.
+// `x ^ y` is the next round's `y ^ z`, so it can be worked out once.
 pub fn majority(x: u32, y: u32, z: u32) -> u32
     ensures { λ r. ⌜ r ≡ Maj x y z ⌝ }
 {

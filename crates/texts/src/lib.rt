@@ -1,2 +1,5 @@
 // What every reader of a text needs: hex, numbers, lines and fields.
+pub mod fields;
 pub mod hex;
+pub mod number;
+pub mod reader;

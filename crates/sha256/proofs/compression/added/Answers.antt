@@ -1,6 +1,6 @@
-use Rattle.sha256.specs.Compression.{sum}
+use Rattle.sha256.specs.Compression.{state-sum}
 use Rattle.sha256.proofs.compression.added.Needs as need
 
 pub returns : need.returns
-unfolding sum
+unfolding state-sum
 returns c = cc

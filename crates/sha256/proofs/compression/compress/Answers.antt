@@ -5,7 +5,7 @@ use native.Mathlib.Omega.{arith}
 use lib.ListN.{length, take, drop, length-append}
 use Rattle.sha256.specs.Windows.{window-words}
 use Rattle.sha256.specs.Schedule.{schedule}
-use Rattle.sha256.specs.Compression.{compressed, constants, sum, rounds}
+use Rattle.sha256.specs.Compression.{compressed, constants, state-sum, rounds}
 use Rattle.sha256.proofs.Steps.{schedule-is, rounds-are}
 use Rattle.sha256.proofs.compression.compress.Needs as need
 
@@ -28,4 +28,4 @@ returns c =
     let k2 : List ℕ = take 16 (drop 32 constants) in
     let k3 : List ℕ = drop 48 constants in
     let f = rounds-are s (c .quarter .result .0) (c .quarter-2 .result .0) (c .quarter-3 .result .0) (c .last-quarter-s3 .result) k0 k1 k2 k3 w0 w1 w2 w3 (sym l0) (sym l1) (sym l2) (c .quarter .ensures .state) (c .quarter-2 .ensures .state) (c .quarter-3 .ensures .state) (c .last-quarter-s3 .ensures) in
-    c .added .ensures ∙ ap (sum s) (f ∙ ap (rounds s constants) (sym e))
+    c .added .ensures ∙ ap (state-sum s) (f ∙ ap (rounds s constants) (sym e))

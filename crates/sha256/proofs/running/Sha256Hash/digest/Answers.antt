@@ -10,7 +10,7 @@ use Rattle.hashes.specs.Digests.{digest-bytes}
 use Rattle.sha256.specs.Compression.{compressed}
 use Rattle.sha256.specs.Message.{digest-of}
 use Rattle.sha256.proofs.Blocks.{digest-means}
-use Rattle.sha256.proofs.Paddings.{padding-law, blocks-law}
+use Rattle.sha256.proofs.Paddings.{padding-law, blocks-law, chain-law}
 use Rattle.sha256.proofs.running.Sha256Hash.digest.Needs as need
 
 pub returns : need.returns
@@ -28,4 +28,5 @@ returns c =
       digest = made .1 ∙ c .state-bytes .ensures ∙ digest-means h end v (c .compress-all .last .s) n (ap (λ i. take i last) z ∙ c .padded-last .ensures) s;
       padding = padding-law;
       blocks = blocks-law;
+      chain = chain-law;
     }
