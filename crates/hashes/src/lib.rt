@@ -1,6 +1,5 @@
 // Running hashes: what one is, the digests they give, and FNV-1a.
 pub mod digest;
-pub mod display;
 pub mod fnv;
 
 ghost use mathlib.Core.Path.{_≡_};

@@ -1,43 +1,66 @@
--- The lines of recordings, one more at a time.
-use mathlib.Core.Path.{_≡_, refl, sym, ap, _∙_}
-use mathlib.Core.List.{List, [], _∷_, _++_, append-nil, append-assoc}
+-- The lines of a record, one at a time, and their lengths.
+use mathlib.Core.Path.{_≡_, ap, subst, _∙_}
+use mathlib.Core.Bool.{true}
+use mathlib.Core.List.{List, [], _∷_, _++_}
 use Prim.Native.Nat.{ℕ, _+_, _<_, _≤_}
 use native.Mathlib.Omega.{arith}
-use lib.ListN.{length, getD, take}
-use Rattle.std.proofs.shelf.Lists.{take-more, length-take-le}
+use lib.ListN.{length, getD, drop, length-append}
+use Rattle.std.proofs.shelf.Lists.{drop-more, drop-all}
+use Rattle.std.specs.Written.{decimal}
+use Rattle.std.specs.Options.{isSome}
+use Rattle.std.specs.declared.option.Option.{Option}
+use Rattle.std.specs.declared.option.Option.the-variants.{Some}
+use Rattle.texts.proofs.Chains.{written, written-is}
+use Rattle.texts.proofs.Hexes.{length-hex}
+use Rattle.texts.proofs.Tabs.{length-line}
+use Rattle.texts.specs.Buffers.{Wrote, WrittenAt}
+use Rattle.texts.specs.Hex.{hex}
+use Rattle.texts.specs.Lines.{line}
 use Rattle.hashes.specs.Fnv.{fnv1a}
-use Rattle.sha256.specs.Message.{sha256}
+use Rattle.sha256.specs.Message.{sha256, digest-of}
 use Rattle.recordings.specs.Recordings.{recordings}
-use Rattle.inventories.specs.Records.{EntryOf, SummaryOf, entry-shown, summary-shown}
-use Rattle.inventories.specs.Texts.{entry-line, entry-lines, library-line, inventory-text}
-use Rattle.inventories.specs.declared.lines.Entry.{Entry}
-use Rattle.inventories.specs.declared.lines.Summary.{Summary}
+use Rattle.inventories.specs.Texts.{record-line, entry-lines, last-line, inventory-text}
 
-one-line : ℕ → List ℕ → List ℕ
-one-line number recording = entry-line number (length recording) (fnv1a recording) (sha256 recording)
+length-fnv : (bytes : List ℕ) → length (hex (fnv1a bytes)) ≡ 16
+length-fnv bytes = length-hex (fnv1a bytes)
 
-entry-lines-push : (n k : ℕ) (xs : List (List ℕ)) (x : List ℕ) → n + length xs ≡ k → entry-lines n (xs ++ (x ∷ [])) ≡ entry-lines n xs ++ one-line k x
-unfolding one-line
-entry-lines-push n k [] x e = let same : n ≡ k = omega arith in append-nil (one-line n x) ∙ ap (λ (m : ℕ). one-line m x) same
-entry-lines-push n k (y ∷ xs) x e =
-    ap (λ (t : List ℕ). one-line n y ++ t) (entry-lines-push (n + 1) k xs x (omega arith))
-    ∙ sym (append-assoc (one-line n y) (entry-lines (n + 1) xs) (one-line k x))
+length-sha : (bytes : List ℕ) → length (hex (sha256 bytes)) ≡ 64
+unfolding sha256 digest-of
+length-sha bytes = length-hex (sha256 bytes)
 
-entry-is : (number : ℕ) (recording : List ℕ) (e : Entry) → EntryOf number recording e → entry-shown e ≡ one-line number recording
-unfolding one-line
-entry-is number recording e o = cc
+pub length-record-line : (name : List ℕ) (number : ℕ) (bytes : List ℕ) → length (record-line name number bytes) ≡ length name + length (decimal number) + 84
+unfolding record-line
+length-record-line name number bytes =
+    length-line (name ∷ (decimal number ∷ (hex (fnv1a bytes) ∷ (hex (sha256 bytes) ∷ [])))) (omega arith)
+    ∙ omega (arith, length-fnv bytes, length-sha bytes)
 
--- the entry of the next recording goes to the lines so far
-pub entry-lines-more : (xs : List (List ℕ)) (k : ℕ) (recording : List ℕ) (e : Entry) → k < length xs → recording ≡ getD xs k [] → EntryOf k recording e
-    → entry-lines 0 (take k xs) ++ entry-shown e ≡ entry-lines 0 (take (k + 1) xs)
-entry-lines-more xs k recording e below is o =
-    let long : 0 + length (take k xs) ≡ k = omega (arith, length-take-le k xs (omega arith)) in
-    ap (λ (t : List ℕ). entry-lines 0 (take k xs) ++ t) (entry-is k recording e o ∙ ap (one-line k) is)
-    ∙ sym (entry-lines-push 0 k (take k xs) (getD xs k []) long)
-    ∙ ap (entry-lines 0) (sym (take-more xs k [] below))
+-- the line of a recording with its number
+abbrev pub recording-line : ℕ → List ℕ → List ℕ
+recording-line number recording = record-line (decimal number) (length recording) recording
 
--- the summary goes to the lines of all recordings
-pub lines-then-summary : (library : List ℕ) (s : Summary) → SummaryOf library s → entry-lines 0 (recordings library) ++ summary-shown s ≡ inventory-text library
-lines-then-summary library s o =
-    let is : summary-shown s ≡ library-line (length (recordings library)) (fnv1a library) (sha256 library) = cc in
-    ap (λ (t : List ℕ). entry-lines 0 (recordings library) ++ t) is
+-- the four fields of a line, as they were written
+module _ (old : List ℕ) (at : ℕ) (name : List ℕ) (m n : ℕ) (fnv sha bytes new : List ℕ) (r : Option ℕ)
+    (d : m ≡ n) (e : fnv ≡ fnv1a bytes) (f : sha ≡ sha256 bytes) (w : WrittenAt old at (line (name ∷ (decimal m ∷ (hex fnv ∷ (hex sha ∷ []))))) new r) where
+  record-line-at : WrittenAt old at (record-line name n bytes) new r
+  unfolding record-line
+  record-line-at = subst (λ (text : List ℕ). WrittenAt old at text new r) (λ i. line (name ∷ (decimal (d i) ∷ (hex (e i) ∷ (hex (f i) ∷ []))))) w
+
+  pub line-answered : at + length (record-line name n bytes) ≤ length old → isSome r ≡ true
+  line-answered fits = written old at (record-line name n bytes) new r record-line-at fits
+
+  pub line-wrote : (end : ℕ) → r ≡ Some end → Wrote old at (record-line name n bytes) new end
+  line-wrote end is = written-is old at (record-line name n bytes) new r end is record-line-at
+
+-- the lines from one on, as it and the others
+pub entries-next : (xs : List (List ℕ)) (i : ℕ) → i < length xs → entry-lines i (drop i xs) ≡ recording-line i (getD xs i []) ++ entry-lines (i + 1) (drop (i + 1) xs)
+entries-next xs i h = ap (entry-lines i) (drop-more xs i [] h)
+
+pub entries-end : (xs : List (List ℕ)) (i : ℕ) → length xs ≤ i → entry-lines i (drop i xs) ≡ []
+entries-end xs i h = ap (entry-lines i) (drop-all i xs h)
+
+pub length-entries-next : (xs : List (List ℕ)) (i : ℕ) → i < length xs
+    → length (entry-lines i (drop i xs)) ≡ length (recording-line i (getD xs i [])) + length (entry-lines (i + 1) (drop (i + 1) xs))
+length-entries-next xs i h = ap length (entries-next xs i h) ∙ length-append (recording-line i (getD xs i [])) (entry-lines (i + 1) (drop (i + 1) xs))
+
+pub length-inventory : (library : List ℕ) → length (inventory-text library) ≡ length (entry-lines 0 (recordings library)) + length (last-line library)
+length-inventory library = length-append (entry-lines 0 (recordings library)) (last-line library)

@@ -2,11 +2,11 @@
 use mathlib.Core.Path.{_≡_, refl, sym, ap, subst, _∙_}
 use mathlib.Core.List.{List, [], _∷_, _++_, append-nil, append-assoc}
 use mathlib.Core.Logic.{inl, inr}
-use Prim.Native.Nat.{ℕ, _+_, _/_, _%_, _^_, _≤_, _<_}
+use Prim.Native.Nat.{ℕ, _+_, _/_, _%_, _^_, _<_}
 use native.Mathlib.Omega.{arith}
 use borrow.Author.Needs.{needs}
 use lib.Chars.{codes}
-use lib.ListN.{length, getD}
+use lib.ListN.{length}
 use Rattle.std.proofs.shelf.Decimals.{decimal-by-steps, same-from-decimal}
 use Rattle.std.proofs.shelf.Elements.{all-push, all-from-getD, all-weaker, length-each}
 use Rattle.std.proofs.shelf.Lists.{length-append}
@@ -14,45 +14,22 @@ use Rattle.std.proofs.shelf.Tests.{cases-lt}
 use Rattle.std.specs.Text.{digitChar}
 use Rattle.std.specs.Written.{decimal, joined}
 use Rattle.std.specs.shelf.Lists.{All, Each}
+use Rattle.texts.proofs.Tabs.{Unbroken, line-told}
 use Rattle.texts.specs.Hex.{hex}
+use Rattle.texts.specs.Lines.{line}
 use Rattle.hashes.specs.Fnv.{fnv1a}
 use Rattle.sha256.specs.Message.{sha256}
 use Rattle.recordings.proofs.Cuts.{length-recordings, only-cut}
 use Rattle.recordings.specs.Recordings.{recordings}
 use Rattle.inventories.specs.Alike.{Alike, SameRecord}
-use Rattle.inventories.specs.Texts.{line, entry-line, entry-lines, library-line, inventory-text}
+use Rattle.inventories.specs.Texts.{record-line, entry-lines}
 
--- no byte of a field is a tab or a line feed
-abbrev Field : List ℕ → Type 0
-Field f = All (λ b. 10 < b) f
+-- the two kinds of lines
+abbrev entry-line : ℕ → ℕ → List ℕ → List ℕ → List ℕ
+entry-line number size fnv sha = line (decimal number ∷ (decimal size ∷ (hex fnv ∷ (hex sha ∷ []))))
 
--- fields end where the first tab or line feed stands
-first-field : (f g r s : List ℕ) (b c : ℕ) → b ≤ 10 → c ≤ 10 → Field f → Field g → f ++ (b ∷ r) ≡ g ++ (c ∷ s) → (f ≡ g) × (b ≡ c) × (r ≡ s)
-first-field [] [] r s b c k l p q e = (refl, (cc), (cc))
-first-field [] (y ∷ g) r s b c k l p q e = let x : b ≡ y = cc in absurd (omega (arith, q .0))
-first-field (x ∷ f) [] r s b c k l p q e = let y : x ≡ c = cc in absurd (omega (arith, p .0))
-first-field (x ∷ f) (y ∷ g) r s b c k l p q e =
-    let h : x ≡ y = cc in
-    let t : f ++ (b ∷ r) ≡ g ++ (c ∷ s) = cc in
-    let m = first-field f g r s b c k l (p .1) (q .1) t in
-    ((let d = m .0 in cc), m .1, m .2)
-
--- a line tells its fields, whatever follows it
-line-fields : (f g : List ℕ) (fs gs : List (List ℕ)) (r s : List ℕ) → All Field (f ∷ fs) → All Field (g ∷ gs) → line (f ∷ fs) ++ r ≡ line (g ∷ gs) ++ s
-    → ((f ∷ fs) ≡ (g ∷ gs)) × (r ≡ s)
-line-fields f g [] [] r s p q e =
-    let m = first-field f g r s 10 10 (omega arith) (omega arith) (p .0) (q .0) (sym (append-assoc f (10 ∷ []) r) ∙ e ∙ append-assoc g (10 ∷ []) s) in
-    (ap (λ (t : List ℕ). t ∷ []) (m .0), m .2)
-line-fields f g [] (h ∷ gs) r s p q e =
-    let m = first-field f g r (line (h ∷ gs) ++ s) 10 9 (omega arith) (omega arith) (p .0) (q .0) (sym (append-assoc f (10 ∷ []) r) ∙ e ∙ append-assoc g (9 ∷ line (h ∷ gs)) s) in
-    absurd (omega (arith, m .1))
-line-fields f g (h ∷ fs) [] r s p q e =
-    let m = first-field f g (line (h ∷ fs) ++ r) s 9 10 (omega arith) (omega arith) (p .0) (q .0) (sym (append-assoc f (9 ∷ line (h ∷ fs)) r) ∙ e ∙ append-assoc g (10 ∷ []) s) in
-    absurd (omega (arith, m .1))
-line-fields f g (h ∷ fs) (i ∷ gs) r s p q e =
-    let m = first-field f g (line (h ∷ fs) ++ r) (line (i ∷ gs) ++ s) 9 9 (omega arith) (omega arith) (p .0) (q .0) (sym (append-assoc f (9 ∷ line (h ∷ fs)) r) ∙ e ∙ append-assoc g (9 ∷ line (i ∷ gs)) s) in
-    let n = line-fields h i fs gs r s (p .1) (q .1) (m .2) in
-    ((let a = m .0 in let b = n .0 in cc), n .1)
+abbrev library-line : ℕ → List ℕ → List ℕ → List ℕ
+library-line count fnv sha = line (codes "library" ∷ (decimal count ∷ (hex fnv ∷ (hex sha ∷ []))))
 
 digit-over : (d : ℕ) → 10 < digitChar d
 digit-over d = search needs
@@ -60,7 +37,7 @@ digit-over d = search needs
 same-digit : (d e : ℕ) → digitChar d ≡ digitChar e → d ≡ e
 same-digit d e p = search needs
 
-field-hex : (bytes : List ℕ) → Field (hex bytes)
+field-hex : (bytes : List ℕ) → Unbroken (hex bytes)
 field-hex [] = tt
 field-hex (b ∷ bytes) = (digit-over (b / 16), (digit-over (b % 16), field-hex bytes))
 
@@ -82,21 +59,21 @@ digits = decimal-by-steps (λ n ds. All (λ b. (10 < b) × (b < 58)) ds)
     (λ n small. ((omega arith, omega arith), tt))
     (λ n ds more all. all-push _ ds (48 + n % 10) all (omega arith, omega arith))
 
-field-decimal : (n : ℕ) → n < 2 ^ 64 → Field (decimal n)
+field-decimal : (n : ℕ) → n < 2 ^ 64 → Unbroken (decimal n)
 field-decimal n h = all-weaker _ _ (λ b p. p .0) (decimal n) (digits n h)
 
-entry-fields : (n l : ℕ) (f s : List ℕ) → n < 2 ^ 64 → l < 2 ^ 64 → All Field (decimal n ∷ (decimal l ∷ (hex f ∷ (hex s ∷ []))))
+entry-fields : (n l : ℕ) (f s : List ℕ) → n < 2 ^ 64 → l < 2 ^ 64 → All Unbroken (decimal n ∷ (decimal l ∷ (hex f ∷ (hex s ∷ []))))
 entry-fields n l f s h k = (field-decimal n h, (field-decimal l k, (field-hex f, (field-hex s, tt))))
 
-last-fields : (m : ℕ) (f s : List ℕ) → m < 2 ^ 64 → All Field (codes "library" ∷ (decimal m ∷ (hex f ∷ (hex s ∷ []))))
+last-fields : (m : ℕ) (f s : List ℕ) → m < 2 ^ 64 → All Unbroken (codes "library" ∷ (decimal m ∷ (hex f ∷ (hex s ∷ []))))
 last-fields m f s h =
     ((omega arith, (omega arith, (omega arith, (omega arith, (omega arith, (omega arith, (omega arith, tt))))))), (field-decimal m h, (field-hex f, (field-hex s, tt))))
 
 -- a line of four fields tells each of them, whatever follows it
-four-told : (f g h i f' g' h' i' r s : List ℕ) → All Field (f ∷ (g ∷ (h ∷ (i ∷ [])))) → All Field (f' ∷ (g' ∷ (h' ∷ (i' ∷ []))))
+four-told : (f g h i f' g' h' i' r s : List ℕ) → All Unbroken (f ∷ (g ∷ (h ∷ (i ∷ [])))) → All Unbroken (f' ∷ (g' ∷ (h' ∷ (i' ∷ []))))
     → line (f ∷ (g ∷ (h ∷ (i ∷ [])))) ++ r ≡ line (f' ∷ (g' ∷ (h' ∷ (i' ∷ [])))) ++ s → (f ≡ f') × (g ≡ g') × (h ≡ h') × (i ≡ i') × (r ≡ s)
 four-told f g h i f' g' h' i' r s p q e =
-    let m : ((f ∷ (g ∷ (h ∷ (i ∷ [])))) ≡ (f' ∷ (g' ∷ (h' ∷ (i' ∷ []))))) × (r ≡ s) = line-fields f f' (g ∷ (h ∷ (i ∷ []))) (g' ∷ (h' ∷ (i' ∷ []))) r s p q e in
+    let m : ((f ∷ (g ∷ (h ∷ (i ∷ [])))) ≡ (f' ∷ (g' ∷ (h' ∷ (i' ∷ []))))) × (r ≡ s) = line-told f f' (g ∷ (h ∷ (i ∷ []))) (g' ∷ (h' ∷ (i' ∷ []))) r s p q e in
     let fields = m .0 in
     ((cc fields), (cc fields), (cc fields), (cc fields), m .1)
 
@@ -130,6 +107,7 @@ Ended n xs m a = entry-lines n xs ++ library-line m (fnv1a a) (sha256 a)
 -- a and b are the whole libraries, m and k the counts on their last lines
 entries-told : (n : ℕ) (xs ys : List (List ℕ)) (m k : ℕ) (a b : List ℕ) → n + length xs < 2 ^ 64 → n + length ys < 2 ^ 64 → All Small xs → All Small ys → m < 2 ^ 64 → k < 2 ^ 64
     → Ended n xs m a ≡ Ended n ys k b → Each Alike xs ys × ((fnv1a a ≡ fnv1a b) × (sha256 a ≡ sha256 b))
+unfolding record-line
 entries-told n [] [] m k a b p q s t i j e = (tt, last-told m k (fnv1a a) (sha256 a) (fnv1a b) (sha256 b) i j e)
 entries-told n [] (y ∷ ys) m k a b p q s t i j e =
     absurd (not-last m n (length y) (fnv1a a) (sha256 a) (fnv1a y) (sha256 y) _ i (omega arith) (t .0) (e ∙ append-assoc (entry-line n (length y) (fnv1a y) (sha256 y)) (entry-lines (n + 1) ys) _))
@@ -142,6 +120,7 @@ entries-told n (x ∷ xs) (y ∷ ys) m k a b p q s t i j e =
     ((record { long = f .0; fnv = f .1; sha = f .2 }, g .0), g .1)
 
 entries-same : (n : ℕ) (xs ys : List (List ℕ)) → Each Alike xs ys → entry-lines n xs ≡ entry-lines n ys
+unfolding record-line
 entries-same n [] [] h = refl
 entries-same n [] (y ∷ ys) h = elim h [ ]
 entries-same n (x ∷ xs) [] h = elim h [ ]
@@ -169,6 +148,7 @@ few-recordings : (a : List ℕ) → Small a → length (recordings a) < 2 ^ 64
 few-recordings a h = omega (arith, length-recordings a)
 
 pub same-record : (a b : List ℕ) → Small a → Small b → SameRecord a b
+unfolding record-line
 same-record a b h k =
     let m = few-recordings a h in
     let n = few-recordings b k in

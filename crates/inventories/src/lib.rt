@@ -1,59 +1,35 @@
 // The record of a library: a line for each recording, and a last line for the whole.
 pub mod digests;
-pub mod lines;
+mod lengths;
+mod lines;
 
 ghost use mathlib.Core.List.{List};
 ghost use mathlib.Core.Path.{_≡_};
 ghost use Prim.Native.Nat.{ℕ, _^_, _<_};
 ghost use lib.ListN.{length};
-ghost use Rattle.std.specs.declared.option.Option.the-variants.{Some};
-ghost use Rattle.std.specs.Written.{Prints};
-ghost use Rattle.recordings.specs.Recordings.{recordings};
 ghost use Rattle.inventories.specs.Alike.{SameRecord};
-ghost use Rattle.inventories.specs.Texts.{inventory-text, entry-lines};
-use lines::Entry;
-use lines::EntryDisplay;
-use lines::Summary;
-use lines::SummaryDisplay;
-use std::fmt;
+ghost use Rattle.inventories.specs.Records.{Recorded};
+ghost use Rattle.inventories.specs.Texts.{inventory-text};
+use refusals::Refusal;
 
-// A library's record, as `{}` writes it.
-#[derive(Clone, Copy)]
-pub struct Inventory<'a> {
-    library: &'a [u8],
-}
-
-impl<'a> Inventory<'a> {
-    // What the record tells: two libraries have the same one exactly when their recordings are alike one by one,
-    // in length and digests, and so are the libraries.
-    pub fn of(library: &'a [u8]) -> Inventory<'a>
-        ensures library { λ r. ⌜ r .library .now ≡ now (library .entry) ⌝ }
-        ensures tells { λ _. ⌜ ((other : List ℕ) → length other < 2 ^ 64 → SameRecord other (now (library .entry))) ⌝ }
-    {
-        Inventory { library }
-    }
-}
-
-// The lines of all recordings, in order.
-fn write_entries<W: fmt::Write>(library: &[u8], f: &mut fmt::Formatter<W>) -> fmt::Result
-    ensures { λ r. ⌜ Prints took (now (f .entry)) r (entry-lines 0 (recordings (now (library .entry)))) (now (f .exit)) ⌝ }
+// How long the record of a library is. It takes no digest, since all digests of a kind are as long.
+pub fn inventory_len(library: &[u8]) -> usize
+    ensures { λ r. ⌜ r ≡ length (inventory-text (now (library .entry))) ⌝ }
 {
-    let mut number = 0;
-    while let Some(recording) = recordings::recording(library, number) {
-        let entry = Entry::new(number, recording);
-        write!(f, "{entry}")?;
-        number += 1;
-    }
-    Ok(())
+    lengths::entries_len(library) + lengths::last_len(recordings::count(library))
 }
 
-pub impl fmt::Display for Inventory<'_> as InventoryDisplay {
-    ghost shown = { λ i. Some (inventory-text (i .library .now)) };
-
-    fn fmt<W: fmt::Write>(&self, f: &mut fmt::Formatter<W>) -> fmt::Result {
-        let library = self.library;
-        write_entries(library, f)?;
-        let last = Summary::of(library);
-        write!(f, "{last}")
+// Writes the record of a library to the front of the buffer, and answers its length. A buffer that is too short for
+// it is left as it was.
+// What a record tells: two libraries have the same one exactly when their recordings are alike one by one, in length
+// and digests, and so are the libraries.
+pub fn write_inventory(library: &[u8], out: &mut [u8]) -> Result<usize, Refusal>
+    ensures written { λ r. ⌜ Recorded (now (library .entry)) (now (out .entry)) (now (out .exit)) r ⌝ }
+    ensures tells { λ _. ⌜ ((other : List ℕ) → length other < 2 ^ 64 → SameRecord other (now (library .entry))) ⌝ }
+{
+    if out.len() < inventory_len(library) {
+        return Err(Refusal::OutputTooShort);
     }
+    let end = lines::put_entries(out, library);
+    Ok(lines::put_last(out, end, library))
 }

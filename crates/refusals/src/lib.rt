@@ -5,9 +5,6 @@ ghost use mathlib.Core.Path.{_≡_};
 ghost use Rattle.refusals.specs.Numbers.{number-of, Listed};
 ghost use Rattle.std.specs.Options.{Cases};
 ghost use Rattle.std.specs.Orderings.{Decides};
-ghost use Rattle.std.specs.Written.{decimal};
-ghost use Rattle.std.specs.declared.option.Option.the-variants.{Some};
-use std::fmt;
 
 // Programs print the numbers, so each case fixes its own.
 #[derive(Clone, Copy, Eq, Debug)]
@@ -90,14 +87,5 @@ pub impl PartialEq<Refusal> for Refusal as RefusalPartialEq {
 
     fn eq(&self, other: &Refusal) -> bool {
         self.number() == other.number()
-    }
-}
-
-pub impl fmt::Display for Refusal as RefusalDisplay {
-    ghost shown = { λ refusal. Some (decimal (number-of refusal)) };
-
-    fn fmt<W: fmt::Write>(&self, f: &mut fmt::Formatter<W>) -> fmt::Result {
-        let number = self.number();
-        write!(f, "{number}")
     }
 }

@@ -12,7 +12,8 @@ use Rattle.std.specs.declared.option.Option.the-variants.{Some}
 use Rattle.std.specs.Text.{digitChar}
 use Rattle.std.proofs.shelf.Lists.{take-all, take-append-drop, take-more-set, length-set, append-assoc, drop-set-lt}
 use Rattle.texts.specs.Cuts.{Lacks}
-use Rattle.texts.specs.Hex.{hex, Bytes, HexOf, IsHex, Filled, Decoded, placed}
+use Rattle.texts.specs.Buffers.{placed}
+use Rattle.texts.specs.Hex.{hex, Bytes, HexOf, IsHex, Filled, Decoded}
 
 -- a digit is told by its character
 same-digit : (d e : ℕ) → d < 16 → e < 16 → digitChar d ≡ digitChar e → d ≡ e

@@ -1,11 +1,12 @@
 use mathlib.Core.Path.{_≡_}
 use mathlib.Core.List.{List, [], _∷_, _++_}
 use Prim.Native.Nat.{ℕ, _+_, _/_, _%_, _<_, _≤_}
-use lib.ListN.{length, take, drop}
+use lib.ListN.{length, drop}
 use Rattle.std.specs.Text.{digitChar}
 use Rattle.std.specs.declared.option.Option.{Option}
 use Rattle.std.specs.declared.option.Option.the-variants.{Some, None}
 use Rattle.std.specs.shelf.Lists.{All}
+use Rattle.texts.specs.Buffers.{placed}
 
 -- two lowercase hex digits for each byte, the upper half first
 abbrev pub hex : List ℕ → List ℕ
@@ -24,10 +25,6 @@ pub record HexOf (text bs : List ℕ) : Type 0 where
 -- text is the hex text of some bytes
 abbrev pub IsHex : List ℕ → Type 0
 IsHex text = (bs : List ℕ) × HexOf text bs
-
--- a buffer with the bytes bs in it from a place on
-abbrev pub placed : List ℕ → ℕ → List ℕ → List ℕ
-placed out at bs = take at out ++ (bs ++ drop (at + length bs) out)
 
 -- the bytes that text writes in hex, where there are such and they fit, stand in a buffer from a place on
 abbrev pub Filled : List ℕ → List ℕ → ℕ → List ℕ → Type 0
