@@ -7,8 +7,8 @@ ghost use mathlib.Core.List.{List};
 ghost use mathlib.Core.Path.{_≡_};
 ghost use Prim.Native.Nat.{ℕ, _^_, _<_};
 ghost use lib.ListN.{length};
+ghost use Rattle.texts.specs.Buffers.{Written};
 ghost use Rattle.inventories.specs.Alike.{SameRecord};
-ghost use Rattle.inventories.specs.Records.{Recorded};
 ghost use Rattle.inventories.specs.Texts.{inventory-text};
 use refusals::Refusal;
 
@@ -24,7 +24,7 @@ pub fn inventory_len(library: &[u8]) -> usize
 // What a record tells: two libraries have the same one exactly when their recordings are alike one by one, in length
 // and digests, and so are the libraries.
 pub fn write_inventory(library: &[u8], out: &mut [u8]) -> Result<usize, Refusal>
-    ensures written { λ r. ⌜ Recorded (now (library .entry)) (now (out .entry)) (now (out .exit)) r ⌝ }
+    ensures written { λ r. ⌜ Written (inventory-text (now (library .entry))) (now (out .entry)) (now (out .exit)) r ⌝ }
     ensures tells { λ _. ⌜ ((other : List ℕ) → length other < 2 ^ 64 → SameRecord other (now (library .entry))) ⌝ }
 {
     if out.len() < inventory_len(library) {

@@ -1,11 +1,10 @@
 use mathlib.Core.Path.{_≡_, refl, sym, ap, subst, _∙_}
-use mathlib.Core.List.{List, [], _∷_, _++_}
-use Prim.Native.Nat.{ℕ, _<_}
+use mathlib.Core.List.{List, [], _∷_}
+use Prim.Native.Nat.{ℕ}
 use native.Mathlib.Omega.{arith}
 use lib.Chars.{codes}
 use lib.ListN.{length}
 use Rattle.std.specs.Written.{decimal}
-use Rattle.std.specs.shelf.Lists.{All}
 use Rattle.std.specs.declared.result.Result.{Result}
 use Rattle.std.specs.declared.result.Result.the-variants.{Ok, Err}
 use Rattle.std.proofs.shelf.Elements.{all-getD}
@@ -20,7 +19,7 @@ use Rattle.vector_files.specs.declared.vector.Message.{Message}
 use Rattle.vector_files.specs.declared.vector.Message.the-variants.{Text, Hex, Repeat}
 use Rattle.vector_files.specs.declared.vector.Vector.{Vector}
 use Rattle.vector_files.specs.declared.vector.Fault.{Fault}
-use Rattle.vector_files.specs.Tabs.{tabbed, Parted, Five}
+use Rattle.vector_files.specs.Tabs.{Five}
 use Rattle.vector_files.specs.Vectors.{hash-word, form-word, message-field, GoodMessage, Printable, GoodName, DigestField, GoodVector, SameVector, vector-line, WrongMessage, no-form, no-message, RefusedFields, name, hash, message, digest, Refused, field-count, fields}
 use Rattle.vector_files.proofs.Tabbing.{one-more, rest-of}
 

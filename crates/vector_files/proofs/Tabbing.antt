@@ -3,7 +3,8 @@ use mathlib.Core.List.{List, [], _∷_, _++_}
 use Prim.Native.Nat.{ℕ}
 use Rattle.texts.specs.Cuts.{FirstCut, Lacks}
 use Rattle.texts.proofs.Pieces.{one-cut, no-cut}
-use Rattle.vector_files.specs.Tabs.{tabbed, Parted}
+use Rattle.texts.specs.Lines.{tabbed}
+use Rattle.vector_files.specs.Tabs.{Parted}
 
 pub one : (s : List ℕ) → Lacks 9 s → Parted s (s ∷ [])
 one s l = record { whole = refl; no-tab = (l, tt) }

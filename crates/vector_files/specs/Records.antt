@@ -1,12 +1,13 @@
 -- What is said of the entries of a file, and how it is written.
 use mathlib.Core.Path.{_≡_}
-use mathlib.Core.List.{List, [], _∷_, _++_}
+use mathlib.Core.List.{List, [], _∷_}
 use Prim.Native.Nat.{ℕ, _+_, _-_, _^_, min}
 use lib.Chars.{codes}
 use Rattle.std.specs.Written.{decimal}
 use Rattle.std.specs.declared.result.Result.{Result}
 use Rattle.std.specs.declared.result.Result.the-variants.{Ok, Err}
 use Rattle.texts.specs.Hex.{hex}
+use Rattle.texts.specs.Lines.{line}
 use Rattle.hashes.specs.Digests.{digest-bytes}
 use Rattle.vector_files.specs.declared.check.Outcome.{Outcome}
 use Rattle.vector_files.specs.declared.check.Outcome.the-variants.{Agrees, Differs}
@@ -20,7 +21,6 @@ use Rattle.vector_files.specs.declared.vector.Fault.{Fault}
 use Rattle.vector_files.specs.declared.vector.Fault.the-variants as fault
 use Rattle.vector_files.specs.declared.vector.Vector.{Vector}
 use Rattle.vector_files.specs.Checks.{CheckedVector}
-use Rattle.vector_files.specs.Tabs.{tabbed}
 
 -- what is found of an entry, under which name, and the buffer after it
 abbrev pub Found : Result Vector Fault → List ℕ → List ℕ → List ℕ → Finding → Type 0
@@ -64,21 +64,32 @@ fault-words fault.Message = codes "message not of its form"
 fault-words fault.Digest = codes "no digest of its hash"
 fault-words fault.TooLong = codes "message too long"
 
--- the length of the message, the digest in hex, and the outcome, parted by tabs
-abbrev pub report-text : Report → List ℕ
-report-text r = tabbed (decimal (r .length) ∷ (hex (digest-bytes (r .digest)) ∷ (outcome-word (r .outcome) ∷ [])))
+-- the line of a checked vector: its name, the length of its message, the digest found in hex, and the outcome
+abbrev pub checked-line : List ℕ → Report → List ℕ
+checked-line name r =
+    line (name ∷ (decimal (r .length) ∷ (hex (digest-bytes (r .digest)) ∷ (outcome-word (r .outcome) ∷ []))))
 
--- a checked vector begins with its name, and a malformed line with its number
-abbrev pub finding-text : ℕ → List ℕ → Finding → List ℕ
-finding-text line name (Checked r) = name ++ (9 ∷ report-text r)
-finding-text line name (Malformed f) = tabbed ((codes "line " ++ decimal line) ∷ (codes "malformed" ∷ (fault-words f ∷ [])))
+-- the line of a malformed line: its number, and what is wrong
+abbrev pub malformed-line : ℕ → Fault → List ℕ
+malformed-line number f = line (codes "line" ∷ (decimal number ∷ (codes "malformed" ∷ (fault-words f ∷ []))))
 
-abbrev pub record-text : Record → List ℕ
-record-text r = finding-text (r .line) (r .name .now) (r .finding)
+-- the line of a record
+abbrev pub finding-line : ℕ → List ℕ → Finding → List ℕ
+finding-line number name (Checked r) = checked-line name r
+finding-line number name (Malformed f) = malformed-line number f
 
-abbrev pub tally-text : Tally → List ℕ
-tally-text t =
-    tabbed
-    ((codes "vectors " ++ decimal (t .vectors))
-    ∷ ((codes "ok " ++ decimal (t .ok))
-    ∷ ((codes "differ " ++ decimal (t .differ)) ∷ ((codes "malformed " ++ decimal (t .malformed)) ∷ []))))
+abbrev pub record-line : Record → List ℕ
+record-line r = finding-line (r .line) (r .name .now) (r .finding)
+
+-- the line of a tally: each count behind its word
+abbrev pub tally-line : Tally → List ℕ
+tally-line t =
+    line
+    (codes "vectors"
+    ∷ (decimal (t .vectors)
+    ∷ (codes "ok"
+    ∷ (decimal (t .ok)
+    ∷ (codes "differ"
+    ∷ (decimal (t .differ)
+    ∷ (codes "malformed"
+    ∷ (decimal (t .malformed) ∷ []))))))))

@@ -1,15 +1,10 @@
--- Fields parted by tabs.
+-- The fields of a line, parted by tabs.
 use mathlib.Core.Path.{_≡_}
-use mathlib.Core.List.{List, [], _∷_, _++_}
+use mathlib.Core.List.{List, [], _∷_}
 use Prim.Native.Nat.{ℕ}
 use Rattle.std.specs.shelf.Lists.{All}
 use Rattle.texts.specs.Cuts.{Lacks}
-
--- fields with one tab between each two
-abbrev pub tabbed : List (List ℕ) → List ℕ
-tabbed [] = []
-tabbed (x ∷ []) = x
-tabbed (x ∷ (y ∷ ys)) = x ++ (9 ∷ tabbed (y ∷ ys))
+use Rattle.texts.specs.Lines.{tabbed}
 
 -- a line is these fields, and no field holds a tab
 pub record Parted (line : List ℕ) (fields : List (List ℕ)) : Type 0 where

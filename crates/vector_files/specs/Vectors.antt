@@ -10,6 +10,7 @@ use Rattle.std.specs.declared.result.Result.{Result}
 use Rattle.std.specs.declared.result.Result.the-variants.{Ok, Err}
 use Rattle.texts.specs.Cuts.{Lacks}
 use Rattle.texts.specs.Hex.{hex, HexOf, IsHex}
+use Rattle.texts.specs.Lines.{tabbed}
 use Rattle.hashes.specs.Fnv.{fnv1a}
 use Rattle.sha256.specs.Message.{sha256}
 use Rattle.vector_files.specs.declared.vector.HashName.{HashName}
@@ -19,7 +20,7 @@ use Rattle.vector_files.specs.declared.vector.Message.the-variants.{Text, Hex,
 use Rattle.vector_files.specs.declared.vector.Vector.{Vector}
 use Rattle.vector_files.specs.declared.vector.Fault.{Fault}
 use Rattle.vector_files.specs.declared.vector.Fault.the-variants as fault
-use Rattle.vector_files.specs.Tabs.{tabbed, Five}
+use Rattle.vector_files.specs.Tabs.{Five}
 
 -- the word for a hash
 abbrev pub hash-word : HashName → List ℕ
