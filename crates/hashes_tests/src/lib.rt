@@ -7,6 +7,7 @@ mod tests {
     use hashes::digest::Digest;
     use hashes::digest::calls::DigestPartialEq;
     use hashes::digest_of;
+    use hashes::digest_of_pieces;
     use hashes::fnv::Fnv1a64Hash;
     use sha256::running::Sha256Hash;
     use std::test::*;
@@ -71,6 +72,13 @@ mod tests {
         first.absorb(b"bar");
         check(first.digest() == digest_of::<Sha256Hash>(b"foobar"))?;
         check(aside.digest() == digest_of::<Sha256Hash>(b"foo"))
+    }
+
+    #[test]
+    fn pieces_are_hashed_as_one_string() -> Result<(), Fail> {
+        let pieces: [&[u8]; 3] = [b"foo", b"", b"bar"];
+        check(digest_of_pieces::<Sha256Hash>(&pieces) == digest_of::<Sha256Hash>(b"foobar"))?;
+        check(digest_of_pieces::<Fnv1a64Hash>(&[]) == digest_of::<Fnv1a64Hash>(b""))
     }
 
     #[test]
