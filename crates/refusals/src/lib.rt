@@ -6,7 +6,7 @@ ghost use Rattle.refusals.specs.Numbers.{number-of, Listed};
 ghost use Rattle.std.specs.Options.{Cases};
 ghost use Rattle.std.specs.Orderings.{Decides};
 
-// Programs print the numbers, so each case fixes its own.
+// The numbers are printed and written down, so each case fixes its own.
 #[derive(Clone, Copy, Eq, Debug)]
 pub enum Refusal {
     // a scheme cannot be made

@@ -36,7 +36,7 @@ reported v old new n expected digest pieces o f (bytes, m, l, i) (p, q) t =
     let e : take (n - 0) new ≡ bytes = ap (take (n - 0)) (i .after) ∙ take-at bytes (drop (length bytes) old) (n - 0) z in
     let a : digest-bytes digest ≡ hashed (v .hash) bytes = p ∙ ap (hashed (v .hash)) e in
     let b : digest-bytes pieces ≡ hashed (v .hash) bytes = q ∙ ap (hashed (v .hash)) e in
-    (bytes, m, i, record { length = sym l; digest = a; outcome = told v (digest-bytes expected) (digest-bytes digest) (digest-bytes pieces) (hashed (v .hash) bytes) o f a b t })
+    (bytes, m, i, record { length = sym l; digest = a; expected = (digest-bytes expected, f); outcome = told v (digest-bytes expected) (digest-bytes digest) (digest-bytes pieces) (hashed (v .hash) bytes) o f a b t })
 
 -- a good message has bytes, and so only its length can be in the way
 has-bytes : (m : Message) → GoodMessage m → (bytes : List ℕ) × Means m bytes

@@ -35,10 +35,12 @@ abbrev pub Tells : Outcome → Type 0 → Type 0
 Tells Agrees P = P
 Tells Differs P = P → ⊥
 
--- what a report on a vector says of the bytes of its message
+-- what a report on a vector says of the bytes of its message; there is one only where the expected field is a digest of
+-- the hash
 pub record Reports (v : Vector) (bytes : List ℕ) (r : Report) : Type 0 where
   pub length : r .length ≡ length bytes
   pub digest : digest-bytes (r .digest) ≡ hashed (v .hash) bytes
+  pub expected : (wanted : List ℕ) × DigestField (v .hash) (v .expected .now) wanted
   pub outcome : Tells (r .outcome) (DigestField (v .hash) (v .expected .now) (hashed (v .hash) bytes))
 
 -- a vector cannot be checked: its expected field is no digest of its hash, or its message does not go into the buffer

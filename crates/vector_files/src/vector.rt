@@ -22,7 +22,7 @@ pub struct Vector<'a> {
     pub expected: &'a [u8],
 }
 
-// What can be wrong with a line of the file, in the order in which it is looked for.
+// What can be wrong with a line of the file, in the order in which a line is judged.
 #[derive(Clone, Copy, PartialEq, Eq, Debug)]
 pub enum Fault {
     Unended,

@@ -1,4 +1,5 @@
 // Checks the test vectors of `vectors.txt`, prints a record for each and a tally, and fails where one is not ok.
+ghost use mathlib.Core.Path.{_≡_};
 ghost use Prim.Native.Nat.{_≤_};
 ghost use lib.ListN.{length};
 ghost use Rattle.std.specs.Results.{Cases};
@@ -31,6 +32,17 @@ fn print(rt: &LibcRuntime, line: &[u8], written: Result<usize, Refusal>) -> Resu
     }
 }
 
+// An error exactly when a vector differs or is malformed.
+fn ending(tally: &Tally) -> Result<(), AnyError>
+    ensures { λ r. ⌜ Cases r (λ _. (now (tally .entry) .differ ≡ 0) × (now (tally .entry) .malformed ≡ 0)) (λ _. (now (tally .entry) .differ ≡ 0) × (now (tally .entry) .malformed ≡ 0) → ⊥) ⌝ }
+{
+    if tally.all_ok() {
+        Ok(())
+    } else {
+        Err("a vector differs or is malformed".into())
+    }
+}
+
 fn run(rt: &LibcRuntime) -> Result<(), AnyError> {
     let text = fs::read(rt, "vectors.txt")?;
     let mut messages = vec![in rt.alloc(); 0u8; MESSAGE_ROOM]?;
@@ -46,11 +58,7 @@ fn run(rt: &LibcRuntime) -> Result<(), AnyError> {
     }
     let written = tally.write(line);
     print(rt, line, written)?;
-    if tally.all_ok() {
-        Ok(())
-    } else {
-        Err("a vector differs or is malformed".into())
-    }
+    ending(&tally)
 }
 
 fn main(rt: LibcRuntime) -> Result<(), AnyError> {
