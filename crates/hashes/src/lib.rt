@@ -1,4 +1,7 @@
 // Running hashes: what one is, the digests they give, and FNV-1a.
+
+#![tactic(auto)]
+
 pub mod digest;
 pub mod fnv;
 

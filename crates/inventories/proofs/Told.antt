@@ -6,7 +6,7 @@ use Rattle.std.proofs.ByRecursion.{All-push, All-from_get_or, All-weaker}
 use Rattle.std.proofs.lemmas.List.{length-append}
 use Rattle.std.proofs.lemmas.Bool.{cases_lt}
 use Rattle.std.specs.Char.{digit_char}
-use Rattle.std.specs.List.{concat, AllZip, AllByRecursion as All}
+use Rattle.std.specs.List.{concat, AllZip, AllByRecursion}
 use Rattle.texts.proofs.Tabs.{Unbroken, line_told}
 use Rattle.texts.specs.Hex.{hex}
 use Rattle.texts.specs.Lines.{line}
@@ -47,23 +47,23 @@ same_hex (x ∷ a) (y ∷ b) e =
     cc
 
 -- digits are below the letters
-digits : (n : ℕ) → n < 2 ^ 64 → All (λ b. (10 < b) × (b < 58)) (decimal n)
-digits = decimal_by_steps (λ n ds. All (λ b. (10 < b) × (b < 58)) ds)
+digits : (n : ℕ) → n < 2 ^ 64 → AllByRecursion (λ b. (10 < b) × (b < 58)) (decimal n)
+digits = decimal_by_steps (λ n ds. AllByRecursion (λ b. (10 < b) × (b < 58)) ds)
     (λ n small. ((omega arith, omega arith), tt))
     (λ n ds more all. All-push _ ds (48 + n % 10) all (omega arith, omega arith))
 
 field_decimal : (n : ℕ) → n < 2 ^ 64 → Unbroken (decimal n)
 field_decimal n h = All-weaker _ _ (λ b p. p.0) (decimal n) (digits n h)
 
-entry_fields : (n l : ℕ) (f s : List ℕ) → n < 2 ^ 64 → l < 2 ^ 64 → All Unbroken (decimal n ∷ (decimal l ∷ (hex f ∷ (hex s ∷ []))))
+entry_fields : (n l : ℕ) (f s : List ℕ) → n < 2 ^ 64 → l < 2 ^ 64 → AllByRecursion Unbroken (decimal n ∷ (decimal l ∷ (hex f ∷ (hex s ∷ []))))
 entry_fields n l f s h k = (field_decimal n h, (field_decimal l k, (field_hex f, (field_hex s, tt))))
 
-last_fields : (m : ℕ) (f s : List ℕ) → m < 2 ^ 64 → All Unbroken (codes "library" ∷ (decimal m ∷ (hex f ∷ (hex s ∷ []))))
+last_fields : (m : ℕ) (f s : List ℕ) → m < 2 ^ 64 → AllByRecursion Unbroken (codes "library" ∷ (decimal m ∷ (hex f ∷ (hex s ∷ []))))
 last_fields m f s h =
     ((omega arith, (omega arith, (omega arith, (omega arith, (omega arith, (omega arith, (omega arith, tt))))))), (field_decimal m h, (field_hex f, (field_hex s, tt))))
 
 -- a line of four fields tells each of them, whatever follows it
-four_told : (f g h i f' g' h' i' r s : List ℕ) → All Unbroken (f ∷ (g ∷ (h ∷ (i ∷ [])))) → All Unbroken (f' ∷ (g' ∷ (h' ∷ (i' ∷ []))))
+four_told : (f g h i f' g' h' i' r s : List ℕ) → AllByRecursion Unbroken (f ∷ (g ∷ (h ∷ (i ∷ [])))) → AllByRecursion Unbroken (f' ∷ (g' ∷ (h' ∷ (i' ∷ []))))
     → line (f ∷ (g ∷ (h ∷ (i ∷ [])))) ++ r ≡ line (f' ∷ (g' ∷ (h' ∷ (i' ∷ [])))) ++ s → (f ≡ f') × (g ≡ g') × (h ≡ h') × (i ≡ i') × (r ≡ s)
 four_told f g h i f' g' h' i' r s p q e =
     let m : ((f ∷ (g ∷ (h ∷ (i ∷ [])))) ≡ (f' ∷ (g' ∷ (h' ∷ (i' ∷ []))))) × (r ≡ s) = line_told f f' (g ∷ (h ∷ (i ∷ []))) (g' ∷ (h' ∷ (i' ∷ []))) r s p q e in
@@ -89,7 +89,7 @@ not_last : (m n l : ℕ) (f s g t r : List ℕ) → m < 2 ^ 64 → n < 2 ^ 64 �
 not_last m n l f s g t r h i j e =
     let k = four_told (codes "library") (decimal m) (hex f) (hex s) (decimal n) (decimal l) (hex g) (hex t) [] r (last_fields m f s h) (entry_fields n l g t i j)
     (append-nil (library_line m f s) ∙ e) in
-    omega (arith, (subst (λ (ds : List ℕ). All (λ b. (10 < b) × (b < 58)) ds) (sym k.0) (digits n i)).0.1)
+    omega (arith, (subst (λ (ds : List ℕ). AllByRecursion (λ b. (10 < b) × (b < 58)) ds) (sym k.0) (digits n i)).0.1)
 
 abbrev Small : List ℕ → Type 0
 Small bytes = length bytes < 2 ^ 64
@@ -98,7 +98,7 @@ abbrev Ended : ℕ → List (List ℕ) → ℕ → List ℕ → List ℕ
 Ended n xs m a = entry_lines n xs ++ library_line m (fnv1a a) (sha256 a)
 
 -- a and b are the whole libraries, m and k the counts on their last lines
-entries_told : (n : ℕ) (xs ys : List (List ℕ)) (m k : ℕ) (a b : List ℕ) → n + length xs < 2 ^ 64 → n + length ys < 2 ^ 64 → All Small xs → All Small ys → m < 2 ^ 64 → k < 2 ^ 64
+entries_told : (n : ℕ) (xs ys : List (List ℕ)) (m k : ℕ) (a b : List ℕ) → n + length xs < 2 ^ 64 → n + length ys < 2 ^ 64 → AllByRecursion Small xs → AllByRecursion Small ys → m < 2 ^ 64 → k < 2 ^ 64
     → Ended n xs m a ≡ Ended n ys k b → AllZip Alike xs ys × ((fnv1a a ≡ fnv1a b) × (sha256 a ≡ sha256 b))
 unfolding record_line
 entries_told n [] [] m k a b p q s t i j e = (tt, last_told m k (fnv1a a) (sha256 a) (fnv1a b) (sha256 b) i j e)
@@ -131,7 +131,7 @@ length-concat (x ∷ xs) (y ∷ ys) h = omega (arith, length-append x (concat xs
 length_whole : (a b : List ℕ) → AllZip Alike (recordings a) (recordings b) → length a ≡ length b
 length_whole a b h = ap length (sym (only_cut a).cut.whole) ∙ length-concat (recordings a) (recordings b) h ∙ ap length (only_cut b).cut.whole
 
-small_recordings : (a : List ℕ) → All Small (recordings a)
+small_recordings : (a : List ℕ) → AllByRecursion Small (recordings a)
 small_recordings a = All-from_get_or _ (recordings a) [] (λ j below. elim (cases_lt (j + 1) (length (recordings a))) [
   | inl h ↦ omega (arith, (only_cut a).cut.full j h)
   | inr h ↦ omega (arith, ((only_cut a).cut.last j (omega arith)).1)

@@ -2,6 +2,8 @@
 ghost use Rattle.inventories.specs.Records.{DigestsOf};
 
 use hashes::digest::Digest;
+use hashes::fnv::Fnv1a64;
+use sha256::running::Sha256;
 
 #[derive(Clone, Copy)]
 pub struct Digests {
@@ -14,8 +16,8 @@ impl Digests {
         ensures { DigestsOf bytes.now result }
     {
         Digests {
-            fnv: hashes::digest_of::<hashes::fnv::Fnv1a64>(bytes),
-            sha: hashes::digest_of::<sha256::running::Sha256>(bytes),
+            fnv: hashes::digest_of::<Fnv1a64>(bytes),
+            sha: hashes::digest_of::<Sha256>(bytes),
         }
     }
 }

@@ -1,4 +1,7 @@
 // The record of a library: a line for each recording, and a last line for the whole.
+
+#![tactic(auto)]
+
 pub mod digests;
 mod lengths;
 mod lines;

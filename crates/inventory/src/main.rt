@@ -1,4 +1,7 @@
 // Prints the record of the library in `library.bin`.
+
+#![tactic(auto)]
+
 ghost use Rattle.std.specs.Prelude.{◌≡◌, IfOk};
 ghost use Rattle.inventories.specs.Texts.{inventory_text};
 

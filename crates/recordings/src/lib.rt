@@ -1,4 +1,7 @@
 // How the bytes of a library are cut into recordings: every 4,096 bytes, and what is left over is the last one.
+
+#![tactic(auto)]
+
 ghost use Rattle.std.specs.Prelude.{◌≡◌, ◌+◌, ◌/◌, ◌<◌, ◌≤◌, [], length, MatchOption, slice_index_or};
 ghost use Rattle.recordings.specs.Recordings.{recordings, OnlyCut};
 

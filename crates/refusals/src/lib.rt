@@ -1,11 +1,13 @@
 // What a call answers when it refuses: one case for each number that a caller can meet.
 // docs/REFUSALS.md tells when each of them comes, and in which order the checks run.
 
-ghost use Rattle.std.specs.Prelude.{◌≡◌, Decides, MatchOption, ◌≢◌};
+#![tactic(auto)]
+
+ghost use Rattle.std.specs.Prelude.{◌≡◌, ◌≢◌, Decides, MatchOption, nat_eq};
+ghost use Rattle.std.specs.Ordering.{on};
 ghost use Rattle.refusals.specs.Numbers.{number_of, Listed};
 ghost use Rattle.std.specs.Cmp.Rules.{comparing};
 ghost use Rattle.std.proofs.Common.{rules};
-ghost use Rattle.std.specs.Cmp as Keys;
 
 // The numbers are printed and written down, so each case fixes its own.
 #[derive(Clone, Copy, Eq, Debug)]
@@ -84,11 +86,14 @@ impl Refusal {
 
 // A derived `==` would promise nothing for so many cases.
 impl PartialEq for Refusal {
-    ghost equals = { λ one other r. Decides r (one ≡ other) };
+    ghost eq = { on number_of nat_eq };
 
-    ghost laws = { Keys.partial_equiv_from_equiv (Prim.search (comparing, rules)) };
+    ghost laws = { Prim.search (comparing, rules) };
 
-    fn eq(&self, other: &Refusal) -> bool {
+    fn eq(&self, other: &Refusal) -> bool
+        ensures tests { result ≡ nat_eq (number_of self.now) (number_of other.now) }
+        ensures equals { Decides result (self.now ≡ other.now) }
+    {
         self.number() == other.number()
     }
 }

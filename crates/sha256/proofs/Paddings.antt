@@ -1,11 +1,11 @@
--- Each message has one padding (padding-law), one cut into blocks (blocks-law) and one list of hash values (chain-law).
+-- Each message has one padding (padding_law), one cut into blocks (blocks_law) and one list of hash values (chain_law).
 use Rattle.std.proofs.Common.{◌≡◌, ℕ, zero, suc, ◌+◌, ◌*◌, ◌/◌, ◌%◌, ◌^◌, ◌<◌, List, [], ◌∷◌, ◌++◌, length, take, drop, replicate, sym, refl, ap, ◌∙◌, mod-lt, zero-lt-suc, pow-suc, arith, lit<, length-append, pow-add}
 use native.Mathlib.Nat.{div-div-eq-div-mul}
 use lib.ListN.{length-replicate}
 use Rattle.hashes.specs.BigEndian.{big_endian}
 use Rattle.std.specs.Simd.{first_chunks}
 use Rattle.std.proofs.lemmas.List.{length-take-le, length-drop, take-append-drop, take_at, drop_at}
-use Rattle.std.specs.List.{concat, AllByRecursion as All}
+use Rattle.std.specs.List.{concat, AllByRecursion}
 use Rattle.std.proofs.ByRecursion.{All-append}
 use Rattle.hashes.proofs.Steps.{one_trace}
 use Rattle.sha256.specs.Compression.{compressed}
@@ -75,7 +75,7 @@ abbrev Byte : ℕ → Type 0
 Byte b = b < 256
 
 -- bytes are known by their bits
-bits_inj : (xs ys : List ℕ) → All Byte xs → All Byte ys → bits xs ≡ bits ys → xs ≡ ys
+bits_inj : (xs ys : List ℕ) → AllByRecursion Byte xs → AllByRecursion Byte ys → bits xs ≡ bits ys → xs ≡ ys
 bits_inj [] [] p q e = refl
 bits_inj [] (c ∷ cs) p q e = let l = ap length e in absurd (omega arith)
 bits_inj (b ∷ bs) [] p q e = let l = ap length e in absurd (omega arith)
@@ -94,11 +94,11 @@ bits_inj (b ∷ bs) (c ∷ cs) p q e =
     let same : b ≡ c = omega arith in
     ap (λ x. x ∷ bs) same ∙ ap (λ rest. c ∷ rest) (bits_inj bs cs p.1 q.1 r)
 
-all_zeros : (n : ℕ) → All Byte (replicate n 0)
+all_zeros : (n : ℕ) → AllByRecursion Byte (replicate n 0)
 all_zeros zero = tt
 all_zeros (suc n) = (lit< tt, all_zeros n)
 
-all_big_endian : (n x : ℕ) → All Byte (big_endian n x)
+all_big_endian : (n x : ℕ) → AllByRecursion Byte (big_endian n x)
 all_big_endian zero x = tt
 all_big_endian (suc n) x = (mod-lt (x / 256 ^ n) (zero-lt-suc 255), all_big_endian n x)
 
@@ -141,14 +141,14 @@ only_bytes message p q =
     let same : q.zero_bytes ≡ zeros n = omega arith in
     q.parts ∙ ap (λ k. message ++ (128 ∷ (replicate k 0 ++ big_endian 8 (8 * n % 2 ^ 64)))) same
 
-all_padded : (message : List ℕ) → All Byte message → All Byte (padded message)
+all_padded : (message : List ℕ) → AllByRecursion Byte message → AllByRecursion Byte (padded message)
 unfolding padded padding
 all_padded message all =
     let n : ℕ = length message in
     All-append Byte message (padding n) all
     (lit< tt, All-append Byte (replicate (zeros n) 0) (big_endian 8 (8 * n % 2 ^ 64)) (all_zeros (zeros n)) (all_big_endian 8 (8 * n % 2 ^ 64)))
 
-only_bits : (message p : List ℕ) → All Byte message → All Byte p → PaddedBits message p → p ≡ padded message
+only_bits : (message p : List ℕ) → AllByRecursion Byte message → AllByRecursion Byte p → PaddedBits message p → p ≡ padded message
 only_bits message p all bytes q =
     let r = padded_bits message in
     let m : ℕ = length (bits message) in
@@ -171,7 +171,7 @@ parsed (suc k) xs e =
     let rest = parsed k (drop 64 xs) (let d = length-drop 64 xs in omega arith) in
     record { whole = ap (λ r. take 64 xs ++ r) rest.whole ∙ take-append-drop 64 xs; each = (l, rest.each) }
 
-same_parse : (bs cs : List (List ℕ)) → All (λ b. length b ≡ 64) bs → All (λ b. length b ≡ 64) cs → concat bs ≡ concat cs → bs ≡ cs
+same_parse : (bs cs : List (List ℕ)) → AllByRecursion (λ b. length b ≡ 64) bs → AllByRecursion (λ b. length b ≡ 64) cs → concat bs ≡ concat cs → bs ≡ cs
 same_parse [] [] p q e = refl
 same_parse [] (c ∷ cs) p q e = let l = ap length e in let a = length-append c (concat cs) in let h : length c ≡ 64 = q.0 in absurd (omega arith)
 same_parse (b ∷ bs) [] p q e = let l = ap length e in let a = length-append b (concat bs) in let h : length b ≡ 64 = p.0 in absurd (omega arith)

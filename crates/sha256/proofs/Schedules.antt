@@ -1,4 +1,4 @@
--- Every block has the standard's schedule and no other (schedule-law), and goes through its rounds one by one (rounds-law).
+-- Every block has the standard's schedule and no other (schedule_law), and goes through its rounds one by one (rounds_law).
 use Rattle.std.proofs.Common.{◌≡◌, ℕ, zero, suc, ◌+◌, ◌-◌, ◌*◌, ◌<◌, ◌≤◌, List, [], ◌∷◌, length, get_or, drop, fold, sym, refl, ap, ◌∙◌, subst, ⊎_elim, arith}
 use Rattle.std.proofs.lemmas.Bool.{cases_eq, cases_lt}
 use Rattle.std.specs.List.{range_with_len}
@@ -19,13 +19,13 @@ length-words zero (a ∷ b ∷ c ∷ d ∷ rest) e = absurd (omega arith)
 length-words (suc n) (a ∷ b ∷ c ∷ d ∷ rest) e = ap suc (length-words n rest (omega arith))
 
 -- the word t of a string of bytes
-pub get_d_words : (bytes : List ℕ) (t : ℕ) → 4 * t + 3 < length bytes → get_or (words bytes) t 0 ≡ word bytes t
-get_d_words [] t h = absurd (omega arith)
-get_d_words (a ∷ []) t h = absurd (omega arith)
-get_d_words (a ∷ b ∷ []) t h = absurd (omega arith)
-get_d_words (a ∷ b ∷ c ∷ []) t h = absurd (omega arith)
-get_d_words (a ∷ b ∷ c ∷ d ∷ rest) zero h = refl
-get_d_words (a ∷ b ∷ c ∷ d ∷ rest) (suc t) h =
+pub get_or-words : (bytes : List ℕ) (t : ℕ) → 4 * t + 3 < length bytes → get_or (words bytes) t 0 ≡ word bytes t
+get_or-words [] t h = absurd (omega arith)
+get_or-words (a ∷ []) t h = absurd (omega arith)
+get_or-words (a ∷ b ∷ []) t h = absurd (omega arith)
+get_or-words (a ∷ b ∷ c ∷ []) t h = absurd (omega arith)
+get_or-words (a ∷ b ∷ c ∷ d ∷ rest) zero h = refl
+get_or-words (a ∷ b ∷ c ∷ d ∷ rest) (suc t) h =
     let bytes : List ℕ = a ∷ b ∷ c ∷ d ∷ rest in
     let e0 : suc (suc (suc (suc (4 * t)))) ≡ 4 * suc t = omega arith in
     let e1 : suc (suc (suc (suc (4 * t + 1)))) ≡ 4 * suc t + 1 = omega arith in
@@ -35,7 +35,7 @@ get_d_words (a ∷ b ∷ c ∷ d ∷ rest) (suc t) h =
     let f1 : get_or rest (4 * t + 1) 0 ≡ get_or bytes (4 * suc t + 1) 0 = ap (λ i. get_or bytes i 0) e1 in
     let f2 : get_or rest (4 * t + 2) 0 ≡ get_or bytes (4 * suc t + 2) 0 = ap (λ i. get_or bytes i 0) e2 in
     let f3 : get_or rest (4 * t + 3) 0 ≡ get_or bytes (4 * suc t + 3) 0 = ap (λ i. get_or bytes i 0) e3 in
-    get_d_words rest t (omega arith) ∙ (cc)
+    get_or-words rest t (omega arith) ∙ (cc)
 
 length-grown : (n : ℕ) (ws : List ℕ) → length (grown n ws) ≡ length ws + n
 length-grown zero ws = omega arith
@@ -86,7 +86,7 @@ scheduled block e =
     let n = length-words 16 block e in
     record {
       long = (let l = length-grown 48 (words block) in omega arith);
-      first = λ t h. grown_keeps 48 (words block) t (omega arith) ∙ get_d_words block t (omega arith);
+      first = λ t h. grown_keeps 48 (words block) t (omega arith) ∙ get_or-words block t (omega arith);
       later = λ t low high. grown_follows 48 (words block) t (omega arith) (omega arith) (omega arith);
     }
 

@@ -1,7 +1,7 @@
 -- SHA-256 of a message (FIPS 180-4, 5.2.1, 5.3.3 and 6.2).
 use Rattle.std.specs.Prelude.{◌≡◌, ℕ, ◌*◌, ◌/◌, List, ◌++◌, length, drop, fold}
 use Rattle.std.specs.Simd.{first_chunks}
-use Rattle.std.specs.List.{concat, AllByRecursion as All}
+use Rattle.std.specs.List.{concat, AllByRecursion}
 use Rattle.hashes.specs.BigEndian.{big_endian}
 use Rattle.hashes.specs.Traces.{OneTrace}
 use Rattle.sha256.specs.Compression.{compressed}
@@ -37,7 +37,7 @@ sha256 message = digest_of (over initial (padded message))
 -- bs are the blocks of bytes: joined they are those bytes, and each has 64
 pub record Parsed (bytes : List ℕ) (bs : List (List ℕ)) : Type 0 where
   pub whole : concat bs ≡ bytes
-  pub each : All (λ b. length b ≡ 64) bs
+  pub each : AllByRecursion (λ b. length b ≡ 64) bs
 
 -- every padded message is cut into these blocks, and in no other way
 abbrev pub BlocksLaw : Type 0

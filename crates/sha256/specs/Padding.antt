@@ -1,6 +1,6 @@
 -- Padding the message (FIPS 180-4, 5.1.1).
 use Rattle.std.specs.Prelude.{◌≡◌, ℕ, zero, suc, ◌+◌, ◌-◌, ◌*◌, ◌/◌, ◌%◌, ◌^◌, ◌<◌, List, [], ◌∷◌, ◌++◌, length, replicate}
-use Rattle.std.specs.List.{AllByRecursion as All}
+use Rattle.std.specs.List.{AllByRecursion}
 use Rattle.hashes.specs.BigEndian.{big_endian}
 
 -- how many zero bytes make n bytes, one byte more, these and eight more a multiple of 64
@@ -45,4 +45,4 @@ abbrev pub PaddingLaw : Type 0
 PaddingLaw =
     (message : List ℕ) → PaddedBytes message (padded message) × PaddedBits message (padded message)
     × ((p : List ℕ) → PaddedBytes message p → p ≡ padded message)
-    × (All (λ b. b < 256) message → (p : List ℕ) → All (λ b. b < 256) p → PaddedBits message p → p ≡ padded message)
+    × (AllByRecursion (λ b. b < 256) message → (p : List ℕ) → AllByRecursion (λ b. b < 256) p → PaddedBits message p → p ≡ padded message)

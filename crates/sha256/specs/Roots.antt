@@ -1,6 +1,6 @@
 -- Where the constants of the standard come from (FIPS 180-4, 4.2.2 and 5.3.3): the first 32 bits of the fractional parts of
 -- the square roots of the first 8 primes and of the cube roots of the first 64.
-use Rattle.std.specs.Prelude.{◌≡◌, ℕ, zero, suc, ◌+◌, ◌*◌, ◌%◌, ◌^◌, ◌<◌, ◌≤◌, Bool, true, false, cond, not, ◌&&◌, List, [], ◌∷◌, length, ◌==◌, slice_index}
+use Rattle.std.specs.Prelude.{◌≡◌, ℕ, zero, suc, ◌+◌, ◌*◌, ◌%◌, ◌^◌, ◌<◌, ◌≤◌, Bool, true, cond, not, ◌&&◌, List, [], ◌∷◌, length, ◌==◌, slice_index}
 use Rattle.sha256.specs.Compression.{constants}
 use Rattle.sha256.specs.Message.{initial}
 

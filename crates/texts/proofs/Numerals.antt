@@ -1,7 +1,7 @@
 use Rattle.std.proofs.Common.{◌≡◌, ℕ, zero, suc, ◌+◌, ◌-◌, ◌*◌, ◌^◌, ◌<◌, ◌≤◌, List, length, get_or, take, decimal, sym, refl, ap, ◌∙◌, subst, arith, rules}
 use native.Mathlib.Nat.{pow-le-pow_right}
 use Rattle.std.specs.Str.Parse.{digits_value, AllDigits}
-use Rattle.std.specs.Char.{digit_value as digitValue}
+use Rattle.std.specs.Char.{digit_value}
 use Rattle.std.proofs.lemmas.Int.Digits.{digits_value_more, digits_more, digits_value-lt}
 use Rattle.std.proofs.lemmas.List.{length-take-le, take_all}
 use Rattle.std.proofs.lemmas.Str.Parse.{numerals_by_value, tells_digits, digit_at, IsNumeralModel, digits_value_short}
@@ -12,8 +12,8 @@ use Rattle.texts.specs.Numbers.{Numeral}
 own : IsNumeralModel (AllDigits 10) (digits_value 10)
 own = numerals_by_value _ tells_digits
 
-digit_value : (b d : ℕ) → d < 10 → b ≡ 48 + d → digitValue b ≡ d
-digit_value b d h e = search rules
+value_of_digit : (b d : ℕ) → d < 10 → b ≡ 48 + d → digit_value b ≡ d
+value_of_digit b d h e = search rules
 
 -- what is read of the first i bytes of s
 pub record Read (s : List ℕ) (i n : ℕ) : Type 0 where
@@ -29,7 +29,7 @@ room s i n h r =
 
 pub next : (s : List ℕ) (i n d : ℕ) → i < length s → d < 10 → get_or s i 0 ≡ 48 + d → Read s i n → Read s (i + 1) (n * 10 + d)
 next s i n d l h e r =
-    let g = digit_value (get_or s i 0) d h e in
+    let g = value_of_digit (get_or s i 0) d h e in
     let more : n * 10 + d ≡ digits_value 10 (take (i + 1) s) = omega (arith, digits_value_more 10 s i l, r.worth) in
     let all : AllDigits 10 (take (i + 1) s) = digits_more 10 s i l r.digits (omega arith) in
     let len : length (take (i + 1) s) ≡ i + 1 = length-take-le (i + 1) s (omega arith) in

@@ -1,7 +1,7 @@
 -- Lines of fields, a field at a time.
 use Rattle.std.proofs.Common.{◌≡◌, ℕ, ◌+◌, ◌-◌, ◌/◌, ◌%◌, ◌<◌, ◌≤◌, List, [], ◌∷◌, ◌++◌, map, length, get_or, take, drop, sym, refl, ap, ◌∙◌, append_assoc, arith, length-append}
 use Rattle.std.specs.Char.{digit_char}
-use Rattle.std.specs.List.{AllByRecursion as All}
+use Rattle.std.specs.List.{AllByRecursion}
 use Rattle.std.proofs.lemmas.List.{drop_more, drop_all, take_all}
 use Rattle.texts.specs.Hex.{hex}
 use Rattle.texts.specs.Lines.{tabbed, line, behind, field_text, line_of}
@@ -76,7 +76,7 @@ length_line_parts fields h = ap length (line_parts fields h) ∙ length-append (
 
 -- no byte of a field is a tab or a line feed
 abbrev pub Unbroken : List ℕ → Type 0
-Unbroken field = All (λ b. 10 < b) field
+Unbroken field = AllByRecursion (λ b. 10 < b) field
 
 -- a text that begins with a tab or a line feed
 abbrev Stop : List ℕ → Type 0
@@ -97,7 +97,7 @@ first_field (x ∷ f) (y ∷ g) r s k l p q e =
     let m = first_field f g r s k l p.1 q.1 t in
     ((let d = m.0 in cc), m.1)
 
-behind_told : (fs gs : List (List ℕ)) (r s : List ℕ) → All Unbroken fs → All Unbroken gs → behind fs ++ r ≡ behind gs ++ s → (fs ≡ gs) × (r ≡ s)
+behind_told : (fs gs : List (List ℕ)) (r s : List ℕ) → AllByRecursion Unbroken fs → AllByRecursion Unbroken gs → behind fs ++ r ≡ behind gs ++ s → (fs ≡ gs) × (r ≡ s)
 behind_told [] [] r s p q e = (refl, (cc))
 behind_told [] (g ∷ gs) r s p q e = absurd (omega (arith, ap (λ (t : List ℕ). get_or t 0 0) e))
 behind_told (f ∷ fs) [] r s p q e = absurd (omega (arith, ap (λ (t : List ℕ). get_or t 0 0) e))
@@ -108,7 +108,7 @@ behind_told (f ∷ fs) (g ∷ gs) r s p q e =
     ((let a = m.0 in let b = n.0 in cc), n.1)
 
 -- a line tells its fields, whatever follows it
-pub line_told : (f g : List ℕ) (fs gs : List (List ℕ)) (r s : List ℕ) → All Unbroken (f ∷ fs) → All Unbroken (g ∷ gs) → line (f ∷ fs) ++ r ≡ line (g ∷ gs) ++ s
+pub line_told : (f g : List ℕ) (fs gs : List (List ℕ)) (r s : List ℕ) → AllByRecursion Unbroken (f ∷ fs) → AllByRecursion Unbroken (g ∷ gs) → line (f ∷ fs) ++ r ≡ line (g ∷ gs) ++ s
     → ((f ∷ fs) ≡ (g ∷ gs)) × (r ≡ s)
 line_told f g fs gs r s p q e =
     let parts = λ (h : List ℕ) (hs : List (List ℕ)) (t : List ℕ). ap (λ (z : List ℕ). z ++ t) (line_first h hs) ∙ append_assoc h (behind hs) t in

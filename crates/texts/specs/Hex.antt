@@ -1,6 +1,6 @@
 use Rattle.std.specs.Prelude.{◌≡◌, ℕ, ◌+◌, ◌/◌, ◌%◌, ◌<◌, ◌≤◌, List, [], ◌∷◌, ◌++◌, length, drop, Some, None, Option}
 use Rattle.std.specs.Char.{digit_char}
-use Rattle.std.specs.List.{AllByRecursion as All}
+use Rattle.std.specs.List.{AllByRecursion}
 use Rattle.texts.specs.Buffers.{placed}
 
 -- two lowercase hex digits for each byte, the upper half first
@@ -10,7 +10,7 @@ hex (b ∷ bs) = digit_char (b / 16) ∷ (digit_char (b % 16) ∷ hex bs)
 
 -- each number of the list is a byte
 abbrev pub Bytes : List ℕ → Type 0
-Bytes bs = All (λ b. b < 256) bs
+Bytes bs = AllByRecursion (λ b. b < 256) bs
 
 -- text is what the bytes bs look like in hex
 pub record HexOf (text bs : List ℕ) : Type 0 where

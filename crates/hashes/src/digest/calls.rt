@@ -1,7 +1,9 @@
-ghost use Rattle.std.specs.Prelude.{◌≡◌, length, Decides, MatchOption};
+ghost use Rattle.std.specs.Prelude.{◌≡◌, length, Decides, MatchOption, nat_eq};
+ghost use Rattle.std.specs.Ordering.{on};
+ghost use Rattle.std.specs.Cmp.Lexicographic.{pointwise};
 ghost use Rattle.hashes.specs.Digests.{DigestLength, digest_bytes};
 ghost use Rattle.std.specs.Cmp.Rules.{comparing};
-ghost use Rattle.std.proofs.Common.{rules, arith};
+ghost use Rattle.std.proofs.Common.{rules};
 
 use super::Digest;
 
@@ -30,11 +32,14 @@ impl Digest {
 
 // Two digests are equal when their bytes are.
 impl PartialEq for Digest {
-    ghost equals = { λ d e r. Decides r (digest_bytes d ≡ digest_bytes e) };
+    ghost eq = { on digest_bytes (pointwise nat_eq) };
 
-    ghost laws = { first_of (Prim.search (comparing, rules), Prim.grind (arith, Self.row.coded.inj)) };
+    ghost laws = { Prim.search (comparing, rules) };
 
-    fn eq(&self, other: &Digest) -> bool {
+    fn eq(&self, other: &Digest) -> bool
+        ensures tests { result ≡ pointwise nat_eq (digest_bytes self.now) (digest_bytes other.now) }
+        ensures equals { Decides result (digest_bytes self.now ≡ digest_bytes other.now) }
+    {
         self.as_bytes() == other.as_bytes()
     }
 }

@@ -11,5 +11,5 @@ filled text old new rest n len all is long =
 pub returns : goal.returns
 returns c =
     let told = c.in-Ok.ensures.written in
-    let made = c.in-ok-text.ensures.len in
-    filled (inventory_text c.args.library.now) c.as-mut-slice.result.now c.write-inventory.new.out _ c.in-Ok.field-0 _ (omega (arith, told.0, made, c.as-mut-slice.ensures.len)) told.2 (omega (arith, made))
+    let made = c.in_ok-text.ensures.len in
+    filled (inventory_text c.args.library.now) c.as_mut_slice.result.now c.write_inventory.new.out _ c.in-Ok.field-0 _ (omega (arith, told.0, made, c.as_mut_slice.ensures.len)) told.2 (omega (arith, made))

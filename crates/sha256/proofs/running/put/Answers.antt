@@ -11,6 +11,6 @@ returns c =
     let k : ℕ = at + length bs - at in
     let n : at + k ≡ at + length bs = omega arith in
     let whole =
-    ap (λ ys. take at xs ++ (ys ++ drop k (drop at xs))) c.copy-from-slice.ensures.after
+    ap (λ ys. take at xs ++ (ys ++ drop k (drop at xs))) c.copy_from_slice.ensures.after
     ∙ ap (λ zs. take at xs ++ (bs ++ zs)) (drop-drop k at xs ∙ ap (λ i. drop i xs) n) in
-    record { whole = whole; front = put_front at xs bs c.args.out.now (omega arith) whole }
+    record { whole = whole; front = put_front at xs bs _ (omega arith) whole }

@@ -8,5 +8,5 @@ returns c =
     let l1 : length c.args.x1 ≡ 4 = omega arith in
     let l2 : length c.args.x2 ≡ 4 = omega arith in
     let l3 : length c.args.x3 ≡ 4 = omega arith in
-    next_four_is c.args.x0 c.args.x1 c.args.x2 c.args.x3 c.small-sigma-0-a.result c.small-sigma-1-b.result c.small-sigma-1-c.result
-    l0 l1 l2 l3 c.small-sigma-0-a.ensures c.small-sigma-1-b.ensures c.small-sigma-1-c.ensures
+    next_four_is c.args.x0 c.args.x1 c.args.x2 c.args.x3 c.small_sigma_0-a.result c.small_sigma_1-b.result c.small_sigma_1-c.result
+    l0 l1 l2 l3 c.small_sigma_0-a.ensures c.small_sigma_1-b.ensures c.small_sigma_1-c.ensures

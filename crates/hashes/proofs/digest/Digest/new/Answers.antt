@@ -7,7 +7,7 @@ returns-then-width-lt1 c = λ d. let low = d.some in let high = d.few in omega a
 
 pub returns : goal.returns
 returns c =
-    let filled = c.copy-from-slice.ensures.after in (
+    let filled = c.copy_from_slice.ensures.after in (
       record { some = omega arith; few = omega arith },
-      take_at c.copy-from-slice.new.self _ (length c.args.bytes.now) (ap length filled) ∙ filled,
+      take_at c.copy_from_slice.new.self _ (length c.args.bytes.now) (ap length filled) ∙ filled,
     )

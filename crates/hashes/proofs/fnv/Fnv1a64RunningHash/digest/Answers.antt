@@ -11,6 +11,6 @@ pub returns : goal.returns
 returns c =
     let value = c.args.self.now.value in
     let made = MatchOption-at_some _ _ c.unwrap.result c.unwrap.ensures c.new.ensures in
-    let bytes : digest_bytes c.unwrap.result ≡ big_endian 8 value = made.1 ∙ eight_bytes value c.to-be-bytes.result c.to-be-bytes.ensures in
+    let bytes : digest_bytes c.unwrap.result ≡ big_endian 8 value = made.1 ∙ eight_bytes value c.to_be_bytes.result c.to_be_bytes.ensures in
     let fits : value < 256 ^ 8 = omega arith in
     record { digest = bytes; number = ap number_of bytes ∙ number_of_bytes 8 value fits; values = one_trace fnv_step fnv_basis }

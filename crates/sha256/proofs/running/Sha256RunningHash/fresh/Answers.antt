@@ -1,4 +1,4 @@
-use Rattle.std.proofs.Common.{◌+◌, ◌++◌, length, ap, zero-add}
+use Rattle.std.proofs.Common.{◌++◌, length, ap, zero-add}
 use Rattle.sha256.specs.Message.{digest_of, initial, over, sha256}
 use Rattle.sha256.specs.Padding.{padded, padding}
 use Rattle.sha256.specs.Running.{pending, sha_from}

@@ -11,22 +11,22 @@ returns-then-fields-eq0 c =
 pub loop-field-init : goal.loop-field-init
 loop-field-init c = (omega arith, omega (arith, length-line_of c.args.fields.now c.if-fields-eq0.false))
 
-pub returns-in-default : goal.returns-in-default
-returns-in-default c small = c.in-default.ensures (omega (arith, c.loop-field.invariant.1, size_next c.args.fields.now c.loop-field.field-index (omega arith)))
+pub returns-in_default : goal.returns-in_default
+returns-in_default c small = c.in_default.ensures (omega (arith, c.loop-field.invariant.1, size_next c.args.fields.now c.loop-field.field-index (omega arith)))
 
-pub returns-in-default-checked-add : goal.returns-in-default-checked-add
-returns-in-default-checked-add c small =
-    c.in-default-checked-add.ensures (omega (arith, c.loop-field.invariant.1, c.in-Some.ensures, size_next c.args.fields.now c.loop-field.field-index (omega arith)))
+pub returns-in_default-checked_add : goal.returns-in_default-checked_add
+returns-in_default-checked_add c small =
+    c.in_default-checked_add.ensures (omega (arith, c.loop-field.invariant.1, c.in-Some.ensures, size_next c.args.fields.now c.loop-field.field-index (omega arith)))
 
-pub returns-in-default-checked-add-2 : goal.returns-in-default-checked-add-2
-returns-in-default-checked-add-2 c small =
-    c.in-default-checked-add-2.ensures
-    (omega (arith, c.loop-field.invariant.1, c.in-Some.ensures, c.in-Some-checked-add.ensures, size_next c.args.fields.now c.loop-field.field-index (omega arith)))
+pub returns-in_default-checked_add-2 : goal.returns-in_default-checked_add-2
+returns-in_default-checked_add-2 c small =
+    c.in_default-checked_add-2.ensures
+    (omega (arith, c.loop-field.invariant.1, c.in-Some.ensures, c.in-Some-checked_add.ensures, size_next c.args.fields.now c.loop-field.field-index (omega arith)))
 
 pub loop-field-preserved : goal.loop-field-preserved
 loop-field-preserved c = (
-  omega (arith, c.in-Some-checked-add-2.ensures),
-  omega (arith, c.loop-field.invariant.1, c.in-Some.ensures, c.in-Some-checked-add.ensures, c.in-Some-checked-add-2.ensures, size_next c.args.fields.now c.loop-field.field-index (omega arith)),
+  omega (arith, c.in-Some-checked_add-2.ensures),
+  omega (arith, c.loop-field.invariant.1, c.in-Some.ensures, c.in-Some-checked_add.ensures, c.in-Some-checked_add-2.ensures, size_next c.args.fields.now c.loop-field.field-index (omega arith)),
 )
 
 pub returns : goal.returns

@@ -10,6 +10,6 @@ returns c =
     record {
       fits = c.requires;
       place = refl;
-      after = put_mid-paste c.args.at _ c.args.out.now c.copy-from-slice.new.self c.args.bytes.now n c.copy-from-slice.ensures.after k refl
+      after = put_mid-paste c.args.at _ c.args.out.now c.copy_from_slice.new.self c.args.bytes.now n c.copy_from_slice.ensures.after k refl
           ∙ paste_all c.args.out.now c.args.at c.args.bytes.now n refl;
     }

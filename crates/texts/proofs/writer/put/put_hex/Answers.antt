@@ -6,18 +6,18 @@ use Rattle.texts.proofs.writer.put.put_hex.Goals as goal
 pub loop-byte-init : goal.loop-byte-init
 loop-byte-init c = writing_begin _ _ _ c.requires
 
-pub put-byte-half-requires : goal.put-byte-half-requires
-put-byte-half-requires c = omega (arith, ap length (hex_next c.args.bytes.now c.loop-byte.byte-index (omega arith)), c.loop-byte.invariant.room)
+pub put_byte-half-requires : goal.put_byte-half-requires
+put_byte-half-requires c = omega (arith, ap length (hex_next c.args.bytes.now c.loop-byte.byte-index (omega arith)), c.loop-byte.invariant.room)
 
-pub put-byte-end-requires : goal.put-byte-end-requires
-put-byte-end-requires c = omega (arith, ap length (hex_next c.args.bytes.now c.loop-byte.byte-index (omega arith)), c.loop-byte.invariant.room)
+pub put_byte-end-requires : goal.put_byte-end-requires
+put_byte-end-requires c = omega (arith, ap length (hex_next c.args.bytes.now c.loop-byte.byte-index (omega arith)), c.loop-byte.invariant.room)
 
 pub loop-byte-preserved : goal.loop-byte-preserved
 loop-byte-preserved c =
     let e = hex_next c.args.bytes.now c.loop-byte.byte-index (omega arith) in
-    let upper = c.hex-character.ensures in
-    let lower = c.hex-character-in-loop-byte.ensures in
-    writing_more _ _ e c.loop-byte.invariant (same (λ i. upper i ∷ (lower i ∷ [])) (then c.put-byte-half.ensures c.put-byte-end.ensures))
+    let upper = c.hex_character.ensures in
+    let lower = c.hex_character-in-loop-byte.ensures in
+    writing_more _ _ e c.loop-byte.invariant (same (λ i. upper i ∷ (lower i ∷ [])) (then c.put_byte-half.ensures c.put_byte-end.ensures))
 
 pub returns : goal.returns
 returns c = writing_done (hex_end c.args.bytes.now c.loop-byte.byte-index (omega arith)) c.loop-byte.invariant
