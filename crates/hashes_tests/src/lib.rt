@@ -1,4 +1,7 @@
 // Digests and running hashes on examples, and a hash that is implemented outside the crate of the trait.
+
+#![tactic(auto)]
+
 ghost use Rattle.std.specs.Prelude.{[], ◌∷◌};
 ghost use Rattle.std.proofs.Common.{rules};
 

@@ -1,5 +1,8 @@
 // The records of an empty library and of libraries at the edge of a recording, and buffers too short and too long.
 // The digests that are expected come from outside: SHA-256 from sha256sum, FNV-1a 64 from a few lines of Python.
+
+#![tactic(auto)]
+
 #[cfg(test)]
 mod tests {
     use inventories::{inventory_len, write_inventory};

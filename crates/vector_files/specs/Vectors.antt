@@ -1,6 +1,6 @@
 -- What a test vector says, and how it is written.
 use Rattle.std.specs.Prelude.{◌≡◌, ℕ, ◌^◌, ◌<◌, ◌≤◌, List, [], ◌∷◌, ◌++◌, length, replicate, Ok, Err, codes, decimal, Result, ◌≢◌, slice_index_or}
-use Rattle.std.specs.List.{AllByRecursion as All}
+use Rattle.std.specs.List.{AllByRecursion}
 use Rattle.texts.specs.Cuts.{Lacks}
 use Rattle.texts.specs.Hex.{hex, HexOf, IsHex}
 use Rattle.texts.specs.Lines.{tabbed}
@@ -73,7 +73,7 @@ pub record Printable (b : ℕ) : Type 0 where
 pub record GoodName (s : List ℕ) : Type 0 where
   pub some : 0 < length s
   pub no_remark : slice_index_or s 0 0 ≡ 35 → ⊥
-  pub printable : All Printable s
+  pub printable : AllByRecursion Printable s
 
 -- a field is the hex text of a digest of the hash
 pub record DigestField (h : HashName) (s bytes : List ℕ) : Type 0 where

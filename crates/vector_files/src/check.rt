@@ -7,7 +7,9 @@ ghost use Rattle.vector_files.specs.Vectors.{GoodVector, hashed};
 use crate::fields::read_digest;
 use crate::vector::{Fault, HashName, Message, Vector};
 use hashes::digest::Digest;
+use hashes::fnv::Fnv1a64;
 use hashes::{RunningHash, digest_of};
+use sha256::running::Sha256;
 use texts::hex::{decode_hex, is_hex};
 
 // Whether the digest found is the expected one.
@@ -84,8 +86,8 @@ fn digests(hash: HashName, bytes: &[u8]) -> (Digest, Digest)
     ensures { (digest_bytes result.0 ≡ hashed hash bytes.now) × (digest_bytes result.1 ≡ hashed hash bytes.now) }
 {
     match hash {
-        HashName::Fnv1a64 => both::<hashes::fnv::Fnv1a64>(bytes),
-        HashName::Sha256 => both::<sha256::running::Sha256>(bytes),
+        HashName::Fnv1a64 => both::<Fnv1a64>(bytes),
+        HashName::Sha256 => both::<Sha256>(bytes),
     }
 }
 

@@ -1,6 +1,6 @@
 // The fields of a line, each read by itself.
 ghost use Rattle.std.specs.Prelude.{◌≡◌, ℕ, List, Decides, MatchOption, ◌≢◌};
-ghost use Rattle.std.specs.List.{AllByRecursion as All};
+ghost use Rattle.std.specs.List.{AllByRecursion};
 ghost use Rattle.texts.specs.Cuts.{Lacks};
 ghost use Rattle.hashes.specs.Digests.{digest_bytes};
 ghost use Rattle.vector_files.specs.Tabs.{Five};
@@ -9,6 +9,8 @@ ghost use Rattle.vector_files.specs.Vectors.{hash_word, hash_width, Printable, R
 use crate::vector::{Fault, HashName, Message};
 use hashes::RunningHash;
 use hashes::digest::Digest;
+use hashes::fnv::Fnv1a64;
+use sha256::running::Sha256;
 use texts::fields::{cut, same};
 use texts::hex::{decode_hex, hex_byte, is_hex};
 use texts::number::number;
@@ -53,7 +55,7 @@ pub(crate) fn five_fields(line: &[u8]) -> Option<Fields<'_>>
 
 // Whether all bytes are printable characters of ASCII.
 fn printable(s: &[u8]) -> bool
-    ensures { Decides result (All Printable s.now) }
+    ensures { Decides result (AllByRecursion Printable s.now) }
 {
     for b in s {
         if *b < b' ' || *b > b'~' {
@@ -134,8 +136,8 @@ fn digest_len(hash: HashName) -> usize
     ensures { result ≡ hash_width hash }
 {
     match hash {
-        HashName::Fnv1a64 => <hashes::fnv::Fnv1a64 as RunningHash>::digest_len(),
-        HashName::Sha256 => <sha256::running::Sha256 as RunningHash>::digest_len(),
+        HashName::Fnv1a64 => Fnv1a64::digest_len(),
+        HashName::Sha256 => Sha256::digest_len(),
     }
 }
 

@@ -1,4 +1,7 @@
 // A file of published test vectors of hashes: read line by line, checked, and reported on.
+
+#![tactic(auto)]
+
 pub mod check;
 pub mod entry;
 mod fields;
@@ -6,4 +9,4 @@ pub mod read;
 pub mod record;
 pub mod tally;
 pub mod vector;
-mod write;
+pub mod write;

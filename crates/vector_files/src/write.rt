@@ -45,34 +45,42 @@ fn write_front(fields: &[Field], out: &mut [u8]) -> Result<usize, Refusal>
     }
 }
 
+// The fields of a checked vector's line.
+pub fn checked_fields<'a>(name: &'a str, report: &'a Report) -> [Field<'a>; 4]
+    ensures { line_of result ≡ checked_line name.now report.now }
+{
+    [
+        Field::Word(name.as_bytes()),
+        Field::Number(report.length),
+        Field::Hex(report.digest.as_bytes()),
+        Field::Word(outcome_word(report.outcome).as_bytes()),
+    ]
+}
+
+// The fields of the line of a line that holds no vector.
+pub fn malformed_fields(number: usize, fault: Fault) -> [Field<'static>; 4]
+    ensures { line_of result ≡ malformed_line number fault }
+{
+    [
+        Field::Word(b"line"),
+        Field::Number(number),
+        Field::Word(b"malformed"),
+        Field::Word(fault_words(fault).as_bytes()),
+    ]
+}
+
 // The line of a checked vector.
 fn write_checked<'a>(name: &'a str, report: &'a Report, out: &mut [u8]) -> Result<usize, Refusal>
     ensures { Written (checked_line name.now report.now) out.old out.new result }
 {
-    write_front(
-        &[
-            Field::Word(name.as_bytes()),
-            Field::Number(report.length),
-            Field::Hex(report.digest.as_bytes()),
-            Field::Word(outcome_word(report.outcome).as_bytes()),
-        ],
-        out,
-    )
+    write_front(&checked_fields(name, report), out)
 }
 
 // The line of a line that holds no vector.
 fn write_malformed(number: usize, fault: Fault, out: &mut [u8]) -> Result<usize, Refusal>
     ensures { Written (malformed_line number fault) out.old out.new result }
 {
-    write_front(
-        &[
-            Field::Word(b"line"),
-            Field::Number(number),
-            Field::Word(b"malformed"),
-            Field::Word(fault_words(fault).as_bytes()),
-        ],
-        out,
-    )
+    write_front(&malformed_fields(number, fault), out)
 }
 
 impl Record<'_> {
@@ -88,22 +96,26 @@ impl Record<'_> {
 }
 
 impl Tally {
+    // The fields of the tally's line: each count behind its word.
+    pub fn fields(&self) -> [Field<'static>; 8]
+        ensures { line_of result ≡ tally_line self.now }
+    {
+        [
+            Field::Word(b"vectors"),
+            Field::Number(self.vectors),
+            Field::Word(b"ok"),
+            Field::Number(self.ok),
+            Field::Word(b"differ"),
+            Field::Number(self.differ),
+            Field::Word(b"malformed"),
+            Field::Number(self.malformed),
+        ]
+    }
+
     // Writes the line of the tally at the front of the buffer, and answers its length.
     pub fn write(&self, out: &mut [u8]) -> Result<usize, Refusal>
         ensures { Written (tally_line self.now) out.old out.new result }
     {
-        write_front(
-            &[
-                Field::Word(b"vectors"),
-                Field::Number(self.vectors),
-                Field::Word(b"ok"),
-                Field::Number(self.ok),
-                Field::Word(b"differ"),
-                Field::Number(self.differ),
-                Field::Word(b"malformed"),
-                Field::Number(self.malformed),
-            ],
-            out,
-        )
+        write_front(&self.fields(), out)
     }
 }

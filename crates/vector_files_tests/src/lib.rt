@@ -1,4 +1,7 @@
 // Lines that are wrong in each way, pieces that end where they like, a file with all kinds of lines, and buffers too short.
+
+#![tactic(auto)]
+
 #[cfg(test)]
 mod tests {
     use refusals::Refusal;

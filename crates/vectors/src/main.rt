@@ -1,4 +1,7 @@
 // Checks the test vectors of `vectors.txt`, prints a record for each and a tally, and fails where one is not ok.
+
+#![tactic(auto)]
+
 ghost use Rattle.std.specs.Prelude.{◌≡◌, ◌≤◌, length, IfOk, MatchResult};
 
 use anyhow::anyhow;

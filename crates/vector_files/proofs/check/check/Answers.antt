@@ -3,9 +3,9 @@ use Rattle.vector_files.specs.Checks.{no_digest, no_message}
 use Rattle.vector_files.proofs.Findings.{reported, good_only_long}
 use Rattle.vector_files.proofs.check.check.Goals as goal
 
-pub returns-in-default : goal.returns-in-default
-returns-in-default c =
-    let n = no_digest c.in-default.ensures in
+pub returns-in_default : goal.returns-in_default
+returns-in_default c =
+    let n = no_digest c.in_default.ensures in
     record { checks = (n, refl); good = good_only_long c.args.vector _ _ n }
 
 pub returns-in-Err : goal.returns-in-Err

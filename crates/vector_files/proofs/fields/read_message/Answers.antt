@@ -2,8 +2,8 @@ use Rattle.std.proofs.Common.{refl}
 use Rattle.vector_files.proofs.Messages.{refuted, bad_hex, bad_repeat, bad_form}
 use Rattle.vector_files.proofs.fields.read_message.Goals as goal
 
-pub returns-else-is-hex : goal.returns-else-is-hex
-returns-else-is-hex c = bad_hex c.args.form.now c.args.field.now c.args.field (c.if-same-2.ensures.0 refl) (refuted c.if-is-hex.ensures)
+pub returns-else-is_hex : goal.returns-else-is_hex
+returns-else-is_hex c = bad_hex c.args.form.now c.args.field.now c.args.field (c.if-same-2.ensures.0 refl) (refuted c.if-is_hex.ensures)
 
 pub returns-in-None : goal.returns-in-None
 returns-in-None c = bad_repeat c.args.form.now c.args.field.now (c.if-same-3.ensures.0 refl) c.in-None.ensures
