@@ -1,18 +1,52 @@
 -- A text has one next entry.
-use Rattle.std.proofs.Common.{◌≡◌, ℕ, List, [], Ok, Err, Option, Result, sym, refl, ◌∙◌, subst, arith}
+use Rattle.std.proofs.Common.{◌≡◌, ℕ, ◌^◌, ◌<◌, List, [], ◌∷◌, length, decimal, ap, Ok, Err, Option, Result, sym, refl, ◌∙◌, subst, arith}
 use Rattle.texts.specs.Cuts.{FirstCut}
 use Rattle.texts.proofs.Pieces.{one_cut, no_cut}
 use Rattle.vector_files.specs.declared.entry.Entry.{Entry}
 use Rattle.vector_files.specs.declared.vector.Fault.{Fault}
 use Rattle.vector_files.specs.declared.vector.Fault.TheVariants.{Unended}
 use Rattle.vector_files.specs.declared.vector.Vector.{Vector}
-use Rattle.vector_files.specs.Vectors.{ReadVector}
+use Rattle.vector_files.specs.declared.vector.Message.{Message}
+use Rattle.vector_files.specs.declared.vector.Message.TheVariants.{Text, Hex, Repeat}
+use Rattle.vector_files.specs.Vectors.{form_word, repeat_field, message_field, GoodMessage, GoodVector, SameVector, ReadVector}
+use Rattle.texts.specs.Hex.{hex}
+use Rattle.texts.proofs.Hexes.{one_hex}
+use Rattle.std.proofs.lemmas.Fmt.{decimal_injective}
 use Rattle.vector_files.specs.Entries.{Remark, NextEntry, ends, remark, line, unended}
-use Rattle.vector_reports.specs.Entries.{SameReading, SameEntry, OnlyEntry}
+use Rattle.vector_reports.specs.Entries.{SameMessage, SameWhole, SameReading, SameEntry, OnlyEntry}
 use Rattle.vector_files.proofs.Readings.{one_vector, refused_none, one_fault}
 
+-- a byte and a count are told by their field
+same_repeat : (b c m n : ℕ) → (b < 256) × (m < 10 ^ 7) → (c < 256) × (n < 10 ^ 7) → repeat_field b m ≡ repeat_field c n → (b ≡ c) × (m ≡ n)
+same_repeat b c m n g h e =
+    let digits : hex (b ∷ []) ≡ hex (c ∷ []) = cc in
+    let bytes : b ∷ [] ≡ c ∷ [] = one_hex (b ∷ []) (c ∷ []) (g.0, tt) (h.0, tt) digits in
+    let counts : decimal m ≡ decimal n = cc in
+    (cc, decimal_injective m n (omega arith) (omega arith) counts)
+
+-- a form and a field tell the message
+same_message : (m n : Message) → GoodMessage m → GoodMessage n → form_word m ≡ form_word n → message_field m ≡ message_field n → SameMessage m n
+same_message (Text s) (Text t) g h e f = f
+same_message (Text s) (Hex t) g h e f = absurd (omega (arith, ap length e))
+same_message (Text s) (Repeat c n) g h e f = absurd (omega (arith, ap length e))
+same_message (Hex s) (Text t) g h e f = absurd (omega (arith, ap length e))
+same_message (Hex s) (Hex t) g h e f = f
+same_message (Hex s) (Repeat c n) g h e f = absurd (omega (arith, ap length e))
+same_message (Repeat b m) (Text t) g h e f = absurd (omega (arith, ap length e))
+same_message (Repeat b m) (Hex t) g h e f = absurd (omega (arith, ap length e))
+same_message (Repeat b m) (Repeat c n) g h e f = same_repeat b c m n g h f
+
+-- good vectors with the same fields are the same, also in their messages
+same_whole : (v w : Vector) → GoodVector v → GoodVector w → SameVector v w → SameWhole v w
+same_whole v w g h s = record {
+  name = s.name;
+  hash = s.hash;
+  message = same_message v.message w.message g.message h.message s.form s.message;
+  digest = s.digest;
+}
+
 one_reading : (s : List ℕ) (a b : Result Vector Fault) → ReadVector s a → ReadVector s b → SameReading a b
-one_reading s (Ok v) (Ok w) (g, e) (h, f) = one_vector s v w g e h f
+one_reading s (Ok v) (Ok w) (g, e) (h, f) = same_whole v w g h (one_vector s v w g e h f)
 one_reading s (Ok v) (Err k) (g, e) r = refused_none s k r v g e
 one_reading s (Err f) (Ok w) r (h, i) = refused_none s f r w h i
 one_reading s (Err f) (Err k) r q = one_fault s f k r q

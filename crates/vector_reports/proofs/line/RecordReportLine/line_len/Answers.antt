@@ -10,4 +10,4 @@ length_of a b r e = subst (λ (text : List ℕ). SomeIff r (length text < 2 ^ 64
 pub returns-in-Malformed : goal.returns-in-Malformed
 returns-in-Malformed c =
     let self = c.args.self.now in
-    length_of _ _ _ (c.malformed-fields.ensures ∙ ap (finding_line self.line self.name.now) (sym c.in-Malformed.is)) c.line-len.ensures
+    length_of _ _ _ (c.malformed_fields.ensures ∙ ap (finding_line self.line self.name.now) (sym c.in-Malformed.is)) c.line_len.ensures
