@@ -1,4 +1,4 @@
-use Rattle.std.proofs.Common.{◌≡◌, ℕ, ◌-◌, ◌≤◌, List, ◌++◌, length, take, drop, replicate, Ok, sym, refl, ap, ◌∙◌, subst, arith}
+use Rattle.std.proofs.Common.{◌≡◌, ℕ, ◌-◌, List, length, take, drop, replicate, Ok, sym, refl, ap, ◌∙◌, subst, arith}
 use Rattle.std.proofs.lemmas.List.{take_at}
 use Rattle.texts.proofs.Hexes.{same_bytes}
 use Rattle.hashes.specs.Digests.{digest_bytes}
@@ -11,7 +11,7 @@ use Rattle.vector_files.specs.declared.vector.Message.{Message}
 use Rattle.vector_files.specs.declared.vector.Message.TheVariants.{Text, Hex, Repeat}
 use Rattle.vector_files.specs.declared.vector.Vector.{Vector}
 use Rattle.vector_files.specs.Vectors.{GoodMessage, GoodVector, Means, DigestField, hashed}
-use Rattle.vector_files.specs.Checks.{InFront, Expanded, Tells, Reports, CheckedVector, NotExpanded, no_bytes, too_long, NotChecked, no_digest, no_message}
+use Rattle.vector_files.specs.Checks.{Expanded, Tells, CheckedVector, NotExpanded, no_bytes, too_long, NotChecked, no_digest, no_message}
 
 -- a digest is the expected one exactly when the expected field is its text
 told : (v : Vector) (expected d e found : List ℕ) (o : Outcome) → DigestField v.hash v.expected.now expected → d ≡ found → e ≡ found

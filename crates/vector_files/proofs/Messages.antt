@@ -1,7 +1,7 @@
-use Rattle.std.proofs.Common.{◌≡◌, ℕ, ◌+◌, ◌-◌, ◌^◌, ◌<◌, ◌≤◌, false, List, [], ◌∷◌, ◌++◌, length, get_or, take, drop, Some, None, codes, decimal, Decides, Option, sym, refl, ap, ◌∙◌, subst, arith, Bor, MatchOption}
+use Rattle.std.proofs.Common.{◌≡◌, ℕ, ◌-◌, ◌≤◌, false, List, [], ◌∷◌, length, get_or, take, drop, Some, None, codes, decimal, Decides, Option, sym, ap, ◌∙◌, subst, arith, Bor, MatchOption}
 use borrow.Author.Tests.{clash}
 use Rattle.std.proofs.lemmas.List.{take_all, take_at}
-use Rattle.texts.specs.Hex.{hex, HexOf, IsHex, Decoded}
+use Rattle.texts.specs.Hex.{HexOf, IsHex, Decoded}
 use Rattle.texts.proofs.Hexes.{same_bytes}
 use Rattle.hashes.specs.Digests.{DigestLength, digest_bytes}
 use Rattle.hashes.specs.declared.digest.Digest.{Digest}

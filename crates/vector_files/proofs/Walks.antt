@@ -1,4 +1,4 @@
-use Rattle.std.proofs.Common.{◌≡◌, ℕ, ◌+◌, ◌<◌, ◌≤◌, true, List, [], ◌∷◌, ◌++◌, length, is_some, Some, None, Err, Option, Result, sym, refl, ap, ◌∙◌, subst, arith, length-append}
+use Rattle.std.proofs.Common.{◌≡◌, ℕ, ◌<◌, true, List, [], ◌∷◌, length, is_some, Some, None, Err, Option, Result, sym, refl, ap, ◌∙◌, subst, arith, length-append}
 use borrow.Author.Tests.{clash}
 use Rattle.texts.specs.Cuts.{FirstCut, Lacks}
 use Rattle.texts.specs.Readers.{left_of, passed_of, RestLine, Passes}
