@@ -8,7 +8,9 @@ ghost use Rattle.std.proofs.Common.{rules};
 #[cfg(test)]
 mod tests {
     use hashes::digest::Digest;
+    use hashes::fnv::Fnv1a64;
     use hashes::{RunningHash, digest_of, digest_of_pieces};
+    use sha256::running::Sha256;
     use std::test::Fail;
 
     // The hash that gives every string the one digest 0: it keeps the trait's laws, and tells nothing of its string.
@@ -67,40 +69,33 @@ mod tests {
         };
         assert!(rt; one == same);
         assert!(rt; one != longer);
-        assert!(rt; one.as_bytes() == b"ab");
+        assert!(rt; one.as_bytes() == b"ab".as_slice());
         Ok(())
     }
 
     // a copy that is set aside goes on from where it was
     #[test]
     fn a_copy_goes_on_by_itself(rt: HostRuntime) {
-        let mut first = <sha256::running::Sha256 as RunningHash>::fresh();
+        let mut first = Sha256::fresh();
         first.absorb(b"foo");
         let aside = first;
         first.absorb(b"bar");
-        assert!(rt; first.digest() == digest_of::<sha256::running::Sha256>(b"foobar"));
-        assert!(rt; aside.digest() == digest_of::<sha256::running::Sha256>(b"foo"));
+        assert!(rt; first.digest() == digest_of::<Sha256>(b"foobar"));
+        assert!(rt; aside.digest() == digest_of::<Sha256>(b"foo"));
     }
 
     #[test]
     fn pieces_are_hashed_as_one_string(rt: HostRuntime) {
         let pieces: [&[u8]; 3] = [b"foo", b"", b"bar"];
-        assert!(rt;
-            digest_of_pieces::<sha256::running::Sha256>(&pieces)
-                == digest_of::<sha256::running::Sha256>(b"foobar")
-        );
-        assert!(rt;
-            digest_of_pieces::<hashes::fnv::Fnv1a64>(&[]) == digest_of::<hashes::fnv::Fnv1a64>(b"")
-        );
+        assert!(rt; digest_of_pieces::<Sha256>(&pieces) == digest_of::<Sha256>(b"foobar"));
+        assert!(rt; digest_of_pieces::<Fnv1a64>(&[]) == digest_of::<Fnv1a64>(b""));
     }
 
     #[test]
     fn each_hash_has_its_width(rt: HostRuntime) {
-        assert!(rt; digest_of::<hashes::fnv::Fnv1a64>(b"a").as_bytes().len() == 8);
-        assert!(rt; digest_of::<sha256::running::Sha256>(b"a").as_bytes().len() == 32);
+        assert!(rt; digest_of::<Fnv1a64>(b"a").as_bytes().len() == 8);
+        assert!(rt; digest_of::<Sha256>(b"a").as_bytes().len() == 32);
         assert!(rt; digest_of::<Constant>(b"a") == digest_of::<Constant>(b"b"));
-        assert!(rt;
-            digest_of::<hashes::fnv::Fnv1a64>(b"a") != digest_of::<hashes::fnv::Fnv1a64>(b"b")
-        );
+        assert!(rt; digest_of::<Fnv1a64>(b"a") != digest_of::<Fnv1a64>(b"b"));
     }
 }

@@ -64,7 +64,7 @@ mod tests {
     fn a_longer_buffer_keeps_its_rest(rt: HostRuntime) {
         let mut long = [7u8; 94];
         assert_eq!(rt; write_inventory(b"", &mut long), Ok(92));
-        assert_eq!(rt; &long[0..92], EMPTY);
-        assert_eq!(rt; &long[92..], b"\x07\x07");
+        assert_eq!(rt; &long[0..92], EMPTY.as_slice());
+        assert_eq!(rt; &long[92..], b"\x07\x07".as_slice());
     }
 }

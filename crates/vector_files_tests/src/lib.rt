@@ -5,6 +5,7 @@
 #[cfg(test)]
 mod tests {
     use refusals::Refusal;
+    use sha256::running::Sha256;
     use std::alloc::{AllocError, Global};
     use std::test::Fail;
     use texts::hex::decode_hex;
@@ -87,11 +88,11 @@ mod tests {
     // A hundred times `a`; the digest is what sha256sum says.
     #[test]
     fn uneven_pieces(rt: HostRuntime) {
-        let digest = digest_in_pieces::<sha256::running::Sha256>(&[b'a'; 100]);
+        let digest = digest_in_pieces::<Sha256>(&[b'a'; 100]);
         let text = b"2816597888e4a0d3a36b82b83316ab32680eb8f00f8cd3b904d681246d285a0e";
         let mut expected = [0u8; 32];
         assert_eq!(rt; decode_hex(text, &mut expected), Some(32));
-        assert_eq!(rt; digest.as_bytes(), &expected);
+        assert_eq!(rt; digest.as_bytes(), expected.as_slice());
     }
 
     #[test]
@@ -145,7 +146,7 @@ mod tests {
         let text = printed(rt.alloc(), file, &mut [0u8; 8])?;
         assert_eq!(rt;
             text.as_slice(),
-            b"foo\t3\tdcb27518fed9d577\tok\nb\t1\taf63df4c8601f1a5\tdiffers\nline\t5\tmalformed\tnot five fields\nline\t6\tmalformed\tno line feed at its end\nvectors\t4\tok\t1\tdiffer\t1\tmalformed\t2\n"
+            b"foo\t3\tdcb27518fed9d577\tok\nb\t1\taf63df4c8601f1a5\tdiffers\nline\t5\tmalformed\tnot five fields\nline\t6\tmalformed\tno line feed at its end\nvectors\t4\tok\t1\tdiffer\t1\tmalformed\t2\n".as_slice()
         );
         Ok(())
     }
