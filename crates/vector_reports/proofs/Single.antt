@@ -13,7 +13,7 @@ use Rattle.texts.specs.Hex.{hex}
 use Rattle.texts.proofs.Hexes.{one_hex}
 use Rattle.std.proofs.lemmas.Fmt.{decimal_injective}
 use Rattle.vector_files.specs.Entries.{Remark, NextEntry, ends, remark, line, unended}
-use Rattle.vector_reports.specs.Entries.{SameMessage, SameWhole, SameReading, SameEntry, OnlyEntry}
+use Rattle.vector_reports.specs.Entries.{SameMessage, SameWhole, SameReading, SameEntry, OnlyEntry, EntryLaw}
 use Rattle.vector_files.proofs.Readings.{one_vector, refused_none, one_fault}
 
 -- a byte and a count are told by their field
@@ -90,3 +90,6 @@ one_entry (unended {e = e} _ _ k i) (unended {e = f} _ _ l j) = ((k ∙ sym l, u
 
 pub only_entry : {passed later : ℕ} {text left : List ℕ} {r : Option Entry} → NextEntry passed text r later left → OnlyEntry passed text r later left
 only_entry e other passed' left' f = one_entry e f
+
+pub entry_law : EntryLaw
+entry_law passed later text left r e = only_entry e

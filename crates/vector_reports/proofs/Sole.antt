@@ -16,7 +16,7 @@ use Rattle.vector_files.specs.declared.vector.Vector.{Vector}
 use Rattle.vector_files.specs.Checks.{Tells, Reports, no_bytes, too_long, NotChecked, no_digest, no_message}
 use Rattle.vector_reports.specs.Reports.{Says}
 use Rattle.vector_files.specs.Records.{counted, counted_outcome, word_of_outcome, finding_line, record_line, tally_line}
-use Rattle.vector_reports.specs.Reports.{Recorded, ends, next, with_records, Report, OneReport}
+use Rattle.vector_reports.specs.Reports.{Recorded, ends, next, with_records, OneReport}
 use Rattle.vector_files.specs.declared.check.Outcome.{Outcome}
 use Rattle.vector_files.specs.declared.check.Outcome.TheVariants.{Agrees, Differs}
 use Rattle.vector_files.specs.declared.check.Report as found

@@ -45,3 +45,8 @@ abbrev pub OnlyEntry : ℕ → List ℕ → Option Entry → ℕ → List ℕ �
 OnlyEntry passed text r later left =
     (other : Option Entry) (passed' : ℕ) (left' : List ℕ) → NextEntry passed text other passed' left'
     → SameEntry r other × (later ≡ passed') × (left ≡ left')
+
+-- a text has one next entry, and one rest after it
+abbrev pub EntryLaw : Type 0
+EntryLaw =
+    (passed later : ℕ) (text left : List ℕ) (r : Option Entry) → NextEntry passed text r later left → OnlyEntry passed text r later left

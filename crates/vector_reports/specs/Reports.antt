@@ -1,5 +1,5 @@
 -- The report on a file: a line for each record, in order, and the line of their tally.
-use Rattle.std.specs.Prelude.{◌≡◌, ℕ, ◌+◌, ◌-◌, ◌^◌, ◌≤◌, min, List, [], ◌∷◌, ◌++◌, map, length, Some, None, Ok, Err, fold, Result}
+use Rattle.std.specs.Prelude.{◌≡◌, ℕ, ◌+◌, ◌-◌, ◌^◌, ◌≤◌, min, List, [], ◌∷◌, ◌++◌, map, length, Some, None, Ok, Err, fold, Option, Result}
 use Rattle.std.specs.List.{concat}
 use Rattle.vector_files.specs.Checks.{Reports, NotChecked}
 use Rattle.vector_files.specs.Vectors.{Means}
@@ -13,7 +13,7 @@ use Rattle.vector_files.specs.declared.record.Finding.{Finding}
 use Rattle.vector_files.specs.declared.record.Finding.TheVariants.{Checked, Malformed}
 use Rattle.vector_files.specs.declared.record.Record.{Record}
 use Rattle.vector_files.specs.declared.tally.Tally.{Tally}
-use Rattle.vector_files.specs.Records.{none_counted, counted, record_line, tally_line}
+use Rattle.vector_files.specs.Records.{Examined, none_counted, counted, record_line, tally_line}
 
 -- what is said of a line that was read, where a message may have so many bytes: the name of its vector, and what was found.
 -- A line that cannot be checked has no name.
@@ -22,6 +22,12 @@ Says room (Err f) name finding = (finding ≡ Malformed f) × (name ≡ [])
 Says room (Ok v) name (Checked r) =
     (name ≡ v.name.now) × ((bytes : List ℕ) × Means v.message bytes × (length bytes ≤ room) × Reports v bytes r)
 Says room (Ok v) name (Malformed f) = (name ≡ []) × NotChecked v room f
+
+-- The record of the next entry of a text, and the buffer of its message before and after; at the end of the text there is none,
+-- and the buffer stays.
+abbrev pub NextRecord : ℕ → List ℕ → List ℕ → List ℕ → Option Record → ℕ → List ℕ → Type 0
+NextRecord passed text old new None later left = NextEntry passed text None later left × (new ≡ old)
+NextRecord passed text old new (Some r) later left = (e : Entry) × NextEntry passed text (Some e) later left × Examined e old new r
 
 -- The records of the entries of a text, in order, where `passed` lines of the file came before it and a message may have
 -- `room` bytes.

@@ -1,5 +1,6 @@
-// The report on the test vectors of a file: its lines, and that no file has two.
+// The report on the test vectors of a file: its records one by one, and their lines. No file has two reports.
 
 #![tactic(auto)]
 
 pub mod line;
+pub mod record;

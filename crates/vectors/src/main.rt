@@ -1,36 +1,50 @@
-// Checks the test vectors of `vectors.txt`, prints a record for each and a tally, and fails where one is not ok.
+// Checks the test vectors of `vectors.txt`, prints the report on them, and fails where one is not ok.
 
 #![tactic(auto)]
 
-ghost use Rattle.std.specs.Prelude.{◌≡◌, ◌≤◌, length, IfOk, MatchResult};
+ghost use Rattle.std.specs.Prelude.{◌≡◌, ◌++◌, IfOk, MatchResult};
+ghost use Rattle.vector_reports.specs.Reports.{FileReport};
 
 use anyhow::anyhow;
-use refusals::Refusal;
+use std::alloc::Global;
 use std::fs;
 use texts::reader::Reader;
-use vector_files::entry::next_entry;
-use vector_files::record::examine;
 use vector_files::tally::Tally;
+use vector_reports::line::ReportLine;
+use vector_reports::record::next_record;
 
 // How long a message may be.
 const MESSAGE_ROOM: usize = 1_048_576;
 
-// By how much a printed line may be longer than the file. A name is a part of the file, and at most 95 bytes stand
-// behind it: 3 tabs, 20 digits of a length, 64 of a digest, `differs` and the line feed. A malformed line's record has
-// at most 60 bytes. The tally has at most 112: 24 of its words, 4 numbers of 20 digits, 7 tabs and the line feed.
-const LINE_ROOM: usize = 112;
-
-// Prints the line that was written at the front of a buffer.
-fn print(rt: &HostRuntime, line: &[u8], written: Result<usize, Refusal>) -> anyhow::Result<()>
-    requires { IfOk written (λ n. n ≤ length line.now) }
+// Puts a line behind the text. Its own buffer has just its length, so that it is never too short.
+fn add_line<L: ReportLine>(heap: Global, text: &mut Vec<u8>, line: &L) -> anyhow::Result<()>
+    ensures { IfOk result (λ _. text.new.items ≡ text.old.items ++ L.text line.now) }
 {
-    match written {
-        Ok(length) => {
-            rt.write_all(&line[0..length])?;
-            Ok(())
-        }
-        Err(_) => Err(anyhow!("a line is longer than its buffer")),
+    let Some(length) = line.line_len() else {
+        return Err(anyhow!("a line is longer than memory"));
+    };
+    let mut buffer = vec![in heap; 0u8; length]?;
+    match line.write_line(buffer.as_mut_slice()) {
+        Ok(_) => text.extend_from_slice(buffer.as_slice())?,
+        Err(_) => unreachable(),
     }
+    Ok(())
+}
+
+// The report on a file of vectors, and its tally.
+fn report(heap: Global, file: &[u8]) -> anyhow::Result<(Vec<u8>, Tally)>
+    ensures { IfOk result (λ made. FileReport 1048576 file.now made.0.items made.1) }
+{
+    let mut messages = vec![in heap; 0u8; MESSAGE_ROOM]?;
+    let mut text = Vec::new(heap);
+    let mut tally = Tally::new();
+    let mut reader = Reader::over(file);
+    while let Some(record) = next_record(&mut reader, messages.as_mut_slice()) {
+        tally.count(record.finding);
+        add_line(heap, &mut text, &record)?;
+    }
+    add_line(heap, &mut text, &tally)?;
+    Ok((text, tally))
 }
 
 // An error exactly when a vector differs or is malformed.
@@ -45,20 +59,9 @@ fn ending(tally: &Tally) -> anyhow::Result<()>
 }
 
 fn run(rt: &HostRuntime) -> anyhow::Result<()> {
-    let text = fs::read(rt, "vectors.txt")?;
-    let mut messages = vec![in rt.alloc(); 0u8; MESSAGE_ROOM]?;
-    let mut lines = vec![in rt.alloc(); 0u8; text.len().saturating_add(LINE_ROOM)]?;
-    let line = lines.as_mut_slice();
-    let mut reader = Reader::over(text.as_slice());
-    let mut tally = Tally::new();
-    while let Some(entry) = next_entry(&mut reader) {
-        let record = examine(entry, messages.as_mut_slice());
-        tally.count(record.finding);
-        let written = record.write(line);
-        print(rt, line, written)?;
-    }
-    let written = tally.write(line);
-    print(rt, line, written)?;
+    let file = fs::read(rt, "vectors.txt")?;
+    let (text, tally) = report(rt.alloc(), file.as_slice())?;
+    rt.write_all(text.as_slice())?;
     ending(&tally)
 }
 
