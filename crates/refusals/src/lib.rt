@@ -84,7 +84,7 @@ impl Refusal {
     }
 }
 
-// A derived `==` would promise nothing for so many cases.
+// Written out, so that its contract says what it tells: whether two cases are the same.
 impl PartialEq for Refusal {
     ghost eq = { on number_of nat_eq };
 
