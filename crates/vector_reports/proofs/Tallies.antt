@@ -6,14 +6,14 @@ use Rattle.vector_files.specs.declared.record.Finding.{Finding}
 use Rattle.vector_files.specs.declared.record.Finding.TheVariants.{Checked, Malformed}
 use Rattle.vector_files.specs.declared.tally.Tally.{Tally}
 use Rattle.vector_files.specs.Records.{one_more, none_counted, counted, counted_outcome}
-use Rattle.vector_reports.specs.Reports.{how_many, agreeing, differing, is_ok, is_different, is_malformed, capped, TallyLaw}
+use Rattle.vector_reports.specs.Reports.{how_many, agreeing, differing, is_agreeing, is_different, is_malformed, capped, TallyLaw}
 
 abbrev four : ℕ → ℕ → ℕ → ℕ → Tally
 four a b c d = record { vectors = a; ok = b; differ = c; malformed = d }
 
 -- the tally after these findings
 abbrev then : Tally → List Finding → Tally
-then t fs = four (capped (t.vectors + length fs)) (capped (t.ok + how_many is_ok fs)) (capped (t.differ + how_many is_different fs)) (capped (t.malformed + how_many is_malformed fs))
+then t fs = four (capped (t.vectors + length fs)) (capped (t.ok + how_many is_agreeing fs)) (capped (t.differ + how_many is_different fs)) (capped (t.malformed + how_many is_malformed fs))
 
 record Small (t : Tally) : Type 0 where
   vectors : t.vectors ≤ 2 ^ 64 - 1
@@ -38,19 +38,19 @@ numbers x n = omega arith
 module _ (fs : List Finding) (rest : (t : Tally) → Small t → fold counted t fs ≡ then t fs) (t : Tally) (s : Small t) where
   outcome : (o : Outcome)
       → fold counted (counted_outcome t o) fs
-      ≡ four (capped (t.vectors + suc (length fs))) (capped (t.ok + (agreeing o + how_many is_ok fs))) (capped (t.differ + (differing o + how_many is_different fs))) (capped (t.malformed + (0 + how_many is_malformed fs)))
+      ≡ four (capped (t.vectors + suc (length fs))) (capped (t.ok + (agreeing o + how_many is_agreeing fs))) (capped (t.differ + (differing o + how_many is_different fs))) (capped (t.malformed + (0 + how_many is_malformed fs)))
   outcome Agrees =
       rest (counted_outcome t Agrees) (record { vectors = omega arith; ok = omega arith; differ = s.differ; malformed = s.malformed })
-      ∙ (λ i. four (numbers t.vectors (length fs) i) (counts t.ok (how_many is_ok fs) i) (passes t.differ (how_many is_different fs) i) (passes t.malformed (how_many is_malformed fs) i))
+      ∙ (λ i. four (numbers t.vectors (length fs) i) (counts t.ok (how_many is_agreeing fs) i) (passes t.differ (how_many is_different fs) i) (passes t.malformed (how_many is_malformed fs) i))
   outcome Differs =
       rest (counted_outcome t Differs) (record { vectors = omega arith; ok = s.ok; differ = omega arith; malformed = s.malformed })
-      ∙ (λ i. four (numbers t.vectors (length fs) i) (passes t.ok (how_many is_ok fs) i) (counts t.differ (how_many is_different fs) i) (passes t.malformed (how_many is_malformed fs) i))
+      ∙ (λ i. four (numbers t.vectors (length fs) i) (passes t.ok (how_many is_agreeing fs) i) (counts t.differ (how_many is_different fs) i) (passes t.malformed (how_many is_malformed fs) i))
 
   finding : (f : Finding) → fold counted (counted t f) fs ≡ then t (f ∷ fs)
   finding (Checked r) = outcome r.outcome
   finding (Malformed k) =
       rest (counted t (Malformed k)) (record { vectors = omega arith; ok = s.ok; differ = s.differ; malformed = omega arith })
-      ∙ (λ i. four (numbers t.vectors (length fs) i) (passes t.ok (how_many is_ok fs) i) (passes t.differ (how_many is_different fs) i) (counts t.malformed (how_many is_malformed fs) i))
+      ∙ (λ i. four (numbers t.vectors (length fs) i) (passes t.ok (how_many is_agreeing fs) i) (passes t.differ (how_many is_different fs) i) (counts t.malformed (how_many is_malformed fs) i))
 
 counting : (fs : List Finding) (t : Tally) → Small t → fold counted t fs ≡ then t fs
 counting [] t s = λ i. four (stays t.vectors s.vectors i) (stays t.ok s.ok i) (stays t.differ s.differ i) (stays t.malformed s.malformed i)
@@ -65,4 +65,4 @@ from_none n = omega arith
 pub tally_law : TallyLaw
 tally_law fs =
     counting fs none_counted none_small
-    ∙ (λ i. four (from_none (length fs) i) (from_none (how_many is_ok fs) i) (from_none (how_many is_different fs) i) (from_none (how_many is_malformed fs) i))
+    ∙ (λ i. four (from_none (length fs) i) (from_none (how_many is_agreeing fs) i) (from_none (how_many is_different fs) i) (from_none (how_many is_malformed fs) i))

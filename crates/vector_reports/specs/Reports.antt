@@ -57,6 +57,10 @@ abbrev pub OneReport : Type 0
 OneReport =
     (room : ℕ) (file a b : List ℕ) (s t : Tally) → FileReport room file a s → FileReport room file b t → (a ≡ b) × (s ≡ t)
 
+-- a file has a report, and its tally has no vector that differs or is malformed
+abbrev pub AllOk : ℕ → List ℕ → Type 0
+AllOk room file = (lines : List ℕ) × (end : Tally) × FileReport room file lines end × (end.differ ≡ 0) × (end.malformed ≡ 0)
+
 -- how many of the findings are of a kind
 abbrev pub how_many : (Finding → ℕ) → List Finding → ℕ
 how_many kind [] = 0
@@ -70,9 +74,9 @@ abbrev pub differing : Outcome → ℕ
 differing Agrees = 0
 differing Differs = 1
 
-abbrev pub is_ok : Finding → ℕ
-is_ok (Checked r) = agreeing r.outcome
-is_ok (Malformed f) = 0
+abbrev pub is_agreeing : Finding → ℕ
+is_agreeing (Checked r) = agreeing r.outcome
+is_agreeing (Malformed f) = 0
 
 abbrev pub is_different : Finding → ℕ
 is_different (Checked r) = differing r.outcome
@@ -90,4 +94,4 @@ capped n = min n (2 ^ 64 - 1)
 abbrev pub TallyLaw : Type 0
 TallyLaw =
     (fs : List Finding) → fold counted none_counted fs
-    ≡ record { vectors = capped (length fs); ok = capped (how_many is_ok fs); differ = capped (how_many is_different fs); malformed = capped (how_many is_malformed fs) }
+    ≡ record { vectors = capped (length fs); ok = capped (how_many is_agreeing fs); differ = capped (how_many is_different fs); malformed = capped (how_many is_malformed fs) }
