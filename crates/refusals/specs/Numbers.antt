@@ -1,7 +1,8 @@
 -- The numbers of the refusals, one line a case.
-use Rattle.std.specs.Prelude.{ℕ, ◌≤◌, ◌⊎◌}
+use Rattle.std.specs.Prelude.{◌≡◌, ◌≢◌, ℕ, ◌≤◌, ◌⊎◌, Result, MatchResult}
 use Rattle.refusals.specs.declared.Refusal.{Refusal}
 use Rattle.refusals.specs.declared.Refusal.TheVariants.{FieldSize, Dimension, Strength, ObjectCount, GroupCount, GroupsPerObject, MergedSize, WrongPhase, BankTooShort, ObjectTooLong, LibrarySize, PageTooShort, VerdictsTooShort, NoSuchObject, Unexplained, NotAVerdict, NotASheet, MalformedSetting, UnknownHash, MalformedDigest, LineCount, ProgramLimit, OutputTooShort}
+use Rattle.refusals.specs.declared.UnknownNumber.{UnknownNumber}
 
 abbrev pub number_of : Refusal → ℕ
 number_of FieldSize = 11
@@ -31,3 +32,9 @@ number_of OutputTooShort = 37
 -- the numbers that are taken: of the schemes, of the sessions, of the texts
 abbrev pub Listed : ℕ → Type 0
 Listed n = ((11 ≤ n) × (n ≤ 17)) ⊎ (((21 ≤ n) × (n ≤ 29)) ⊎ ((31 ≤ n) × (n ≤ 37)))
+
+-- the result is the case with this number, which is then taken, or it holds the number, which no case has
+abbrev pub Decodes : ℕ → Result Refusal UnknownNumber → Type 0
+Decodes number r = MatchResult r
+    (λ case. (number_of case ≡ number) × Listed number)
+    (λ unknown. (unknown.0 ≡ number) × (((case : Refusal) → number_of case ≢ number) × (Listed number → ⊥)))

@@ -3,9 +3,9 @@
 
 #![tactic(auto)]
 
-ghost use Rattle.std.specs.Prelude.{◌≡◌, ◌≢◌, Decides, MatchOption, nat_eq};
+ghost use Rattle.std.specs.Prelude.{◌≡◌, Decides, nat_eq};
 ghost use Rattle.std.specs.Ordering.{on};
-ghost use Rattle.refusals.specs.Numbers.{number_of, Listed};
+ghost use Rattle.refusals.specs.Numbers.{number_of, Listed, Decodes};
 ghost use Rattle.std.specs.Cmp.Rules.{comparing};
 ghost use Rattle.std.proofs.Common.{rules};
 
@@ -41,7 +41,7 @@ pub enum Refusal {
 }
 
 impl Refusal {
-    // The number that stands for this case, and for no other.
+    // The number that stands for this case, and for no other. A `From` would only be a second name for it.
     pub fn number(self) -> u8
         ensures is { result ≡ number_of self }
         ensures listed { Listed result }
@@ -49,42 +49,49 @@ impl Refusal {
     {
         self as u8
     }
+}
 
-    // The case with this number; absent exactly when no case has it.
-    pub fn from_number(number: u8) -> Option<Refusal>
-        ensures found { MatchOption result ((case : Refusal) → number_of case ≢ number) (λ case. number_of case ≡ number) }
-        ensures listed { MatchOption result (Listed number → ⊥) (λ _. Listed number) }
-    {
+// A number that no case has.
+#[derive(Clone, Copy, PartialEq, Eq, Debug)]
+pub struct UnknownNumber(pub u8);
+
+// The case with this number; the number itself exactly when no case has it.
+impl TryFrom<u8> for Refusal {
+    type Error = UnknownNumber;
+
+    ghost try_from_gives = { Decodes };
+
+    fn try_from(number: u8) -> Result<Refusal, UnknownNumber> {
         match number {
-            11 => Some(Refusal::FieldSize),
-            12 => Some(Refusal::Dimension),
-            13 => Some(Refusal::Strength),
-            14 => Some(Refusal::ObjectCount),
-            15 => Some(Refusal::GroupCount),
-            16 => Some(Refusal::GroupsPerObject),
-            17 => Some(Refusal::MergedSize),
-            21 => Some(Refusal::WrongPhase),
-            22 => Some(Refusal::BankTooShort),
-            23 => Some(Refusal::ObjectTooLong),
-            24 => Some(Refusal::LibrarySize),
-            25 => Some(Refusal::PageTooShort),
-            26 => Some(Refusal::VerdictsTooShort),
-            27 => Some(Refusal::NoSuchObject),
-            28 => Some(Refusal::Unexplained),
-            29 => Some(Refusal::NotAVerdict),
-            31 => Some(Refusal::NotASheet),
-            32 => Some(Refusal::MalformedSetting),
-            33 => Some(Refusal::UnknownHash),
-            34 => Some(Refusal::MalformedDigest),
-            35 => Some(Refusal::LineCount),
-            36 => Some(Refusal::ProgramLimit),
-            37 => Some(Refusal::OutputTooShort),
-            _ => None,
+            11 => Ok(Refusal::FieldSize),
+            12 => Ok(Refusal::Dimension),
+            13 => Ok(Refusal::Strength),
+            14 => Ok(Refusal::ObjectCount),
+            15 => Ok(Refusal::GroupCount),
+            16 => Ok(Refusal::GroupsPerObject),
+            17 => Ok(Refusal::MergedSize),
+            21 => Ok(Refusal::WrongPhase),
+            22 => Ok(Refusal::BankTooShort),
+            23 => Ok(Refusal::ObjectTooLong),
+            24 => Ok(Refusal::LibrarySize),
+            25 => Ok(Refusal::PageTooShort),
+            26 => Ok(Refusal::VerdictsTooShort),
+            27 => Ok(Refusal::NoSuchObject),
+            28 => Ok(Refusal::Unexplained),
+            29 => Ok(Refusal::NotAVerdict),
+            31 => Ok(Refusal::NotASheet),
+            32 => Ok(Refusal::MalformedSetting),
+            33 => Ok(Refusal::UnknownHash),
+            34 => Ok(Refusal::MalformedDigest),
+            35 => Ok(Refusal::LineCount),
+            36 => Ok(Refusal::ProgramLimit),
+            37 => Ok(Refusal::OutputTooShort),
+            _ => Err(UnknownNumber(number)),
         }
     }
 }
 
-// Written out, so that its contract says what it tells: whether two cases are the same.
+// By hand: a derive promises as much but shows no clause, and the edit `equality` is planted in this body.
 impl PartialEq for Refusal {
     ghost eq = { on number_of nat_eq };
 
