@@ -50,11 +50,9 @@ impl RunningHash for Fnv1a64 {
     }
 
     fn absorb(&mut self, bytes: &[u8]) {
-        let mut value = self.value;
-        for b in bytes {
-            value = step(value, *b);
-        }
-        self.value = value;
+        self.value = bytes
+            .iter()
+            .fold(self.value, |value, byte| step(value, *byte));
     }
 
     // As a number, with the highest byte first, the digest is the value. The law says of every string which values it

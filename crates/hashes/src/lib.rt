@@ -66,7 +66,5 @@ pub fn digest_of_pieces<H: RunningHash>(pieces: &[&[u8]]) -> Digest
 pub fn digest_of<H: RunningHash>(bytes: &[u8]) -> Digest
     ensures { digest_bytes result ≡ H.RunningHash.start bytes.now }
 {
-    let mut hash = H::fresh();
-    hash.absorb(bytes);
-    hash.digest()
+    digest_of_pieces::<H>(&[bytes])
 }
