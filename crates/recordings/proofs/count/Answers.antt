@@ -2,9 +2,8 @@ use Rattle.std.proofs.Common.{arith}
 use Rattle.recordings.proofs.Cuts.{length-recordings, only_cut}
 use Rattle.recordings.proofs.count.Goals as goal
 
-pub returns : goal.returns
-returns c = record {
-  number = omega (arith, length-recordings c.args.library.now);
-  by_length = omega arith;
-  cut = only_cut c.args.library.now;
-}
+pub returns-clause-number : goal.returns-clause-number
+returns-clause-number c = omega (arith, length-recordings)
+
+pub returns-clause-cut : goal.returns-clause-cut
+returns-clause-cut c = only_cut c.args.library.now

@@ -1,12 +1,26 @@
-use Rattle.std.proofs.Common.{◌<◌, length, arith}
-use Rattle.recordings.specs.Recordings.{recordings}
-use Rattle.recordings.proofs.Cuts.{part_is, only_cut}
+use Rattle.std.proofs.Common.{◌≡◌, ◌*◌, ℕ, drop, ap, ◌∙◌, arith}
+use Rattle.std.proofs.lemmas.List.{take_rest}
+use Rattle.recordings.proofs.Cuts.{length-recordings, only_cut, first_chunk}
 use Rattle.recordings.proofs.recording.Goals as goal
 
-pub returns : goal.returns
-returns c =
-    let below : c.args.number < length (recordings c.args.library.now) = omega arith in
-    record {
-      value = (below, part_is c.args.library.now c.args.number c.min.result below c.min.ensures);
-      cut = only_cut c.args.library.now;
-    }
+pub returns-in_err-checked_mul-clause-value : goal.returns-in_err-checked_mul-clause-value
+returns-in_err-checked_mul-clause-value c = grind (arith, length-recordings)
+
+pub returns-in_err-checked_mul-clause-cut : goal.returns-in_err-checked_mul-clause-cut
+returns-in_err-checked_mul-clause-cut c = only_cut c.args.library.now
+
+pub returns-in_err-rest-clause-value : goal.returns-in_err-rest-clause-value
+returns-in_err-rest-clause-value c = grind (arith, length-recordings)
+
+pub returns-in_err-rest-clause-cut : goal.returns-in_err-rest-clause-cut
+returns-in_err-rest-clause-cut c = only_cut c.args.library.now
+
+pub returns-clause-value : goal.returns-clause-value
+returns-clause-value c =
+    let library = c.args.library.now in
+    let from : c.in_ok-checked_mul.field-0 ≡ c.args.number * 4096 = grind arith in
+    let begins = c.all.ensures.rest ∙ c.in_ok-rest.ensures.lookup.0.2 ∙ take_rest library _ ∙ ap (λ (k : ℕ). drop k library) from in
+    first_chunk library c.args.number c.all.result c.next.new.self c.next.result c.all.ensures.size begins c.next.ensures.steps
+
+pub returns-clause-cut : goal.returns-clause-cut
+returns-clause-cut c = only_cut c.args.library.now
