@@ -1,7 +1,10 @@
 -- Texts written one behind the other.
-use Rattle.std.proofs.Common.{◌≡◌, ℕ, ◌+◌, ◌≤◌, true, List, [], ◌++◌, length, take, drop, is_some, Some, None, Option, sym, refl, ap, ◌∙◌, subst, append_assoc, arith, length-append, length-drop}
+use Rattle.std.proofs.Common.{◌≡◌, ℕ, ◌+◌, ◌≤◌, List, [], ◌++◌, length, take, drop, sym, refl, ap, ◌∙◌, subst, append_assoc, arith, length-append, length-drop}
 use Rattle.std.proofs.lemmas.List.{take_at, drop_at, drop-drop, length-take-le, take-append-drop}
-use Rattle.texts.specs.Buffers.{placed, Wrote, WrittenAt}
+use Rattle.texts.specs.Buffers.{placed, Wrote}
+use Rattle.std.specs.Borrow.{MutBor}
+use Rattle.texts.specs.Writers.{Fronts, Puts, Room, buffer_of, place_of}
+use Rattle.texts.specs.declared.writer.Writer.{Writer}
 
 -- a buffer keeps its length
 pub length-placed : (out : List ℕ) (at : ℕ) (text : List ℕ) → at + length text ≤ length out → length (placed out at text) ≡ length out
@@ -44,35 +47,37 @@ then {out} {at} {a} {b} {o1} {o2} {p1} {p2} x y =
           ∙ ap (λ (k : ℕ). take at out ++ ((a ++ b) ++ drop k out)) n;
     }
 
--- a text that fits is written
-pub written : (old : List ℕ) (at : ℕ) (text new : List ℕ) (r : Option ℕ) → WrittenAt old at text new r → at + length text ≤ length old → is_some r ≡ true
-written old at text new (Some end) w fits = refl
-written old at text new None w fits = absurd (omega (arith, w.0))
+-- the same of writers
+pub puts_then : {w v u : Writer} {a b : List ℕ} → Puts w a v → Puts v b u → Puts w (a ++ b) u
+puts_then x y = record { buffer = y.buffer ∙ x.buffer; wrote = then x.wrote y.wrote }
 
-pub written_is : (old : List ℕ) (at : ℕ) (text new : List ℕ) (r : Option ℕ) (end : ℕ) → r ≡ Some end → WrittenAt old at text new r → Wrote old at text new end
-written_is old at text new r end e w = subst (λ (answer : Option ℕ). WrittenAt old at text new answer) e w
+pub puts_same : {w v : Writer} {a b : List ℕ} → a ≡ b → Puts w a v → Puts w b v
+puts_same e x = record { buffer = x.buffer; wrote = same e x.wrote }
 
--- What a loop that writes keeps: what is left of the whole text fits from this place on, and whatever writes it
--- there, wrote the whole.
-pub record Writing (old : List ℕ) (from : ℕ) (whole out : List ℕ) (at : ℕ) (left : List ℕ) : Type 0 where
-  pub room : at + length left ≤ length out
-  pub go : (new : List ℕ) (end : ℕ) → Wrote out at left new end → Wrote old from whole new end
+-- what is left to write has room where the whole had
+pub room_after : {w v : Writer} (a b : List ℕ) {whole : List ℕ} → whole ≡ a ++ b → Room w whole → Puts w a v → Room v b
+room_after {w} {v} a b {whole} e r p = omega (arith, r, ap length e, length-append a b, p.wrote.place, length_wrote p.wrote)
 
-pub writing_begin : (old : List ℕ) (from : ℕ) (whole : List ℕ) → from + length whole ≤ length old → Writing old from whole old from whole
-writing_begin old from whole room = record { room = room; go = λ new end w. w }
+-- What a loop that writes keeps: what is left of the whole text fits, and whatever writes it, wrote the whole.
+pub record Writing (from : Writer) (whole : List ℕ) (w : Writer) (left : List ℕ) : Type 0 where
+  pub room : Room w left
+  pub go : (new : Writer) → Puts w left new → Puts from whole new
 
-pub writing_more : {old : List ℕ} {from : ℕ} {whole out : List ℕ} {at : ℕ} {left : List ℕ} {new : List ℕ} {end : ℕ} (a b : List ℕ)
-    → left ≡ a ++ b → Writing old from whole out at left → Wrote out at a new end → Writing old from whole new end b
-writing_more {old} {from} {whole} {out} {at} {left} {new} {end} a b e v w = record {
-  room = omega (arith, v.room, ap length e, length-append a b, w.place, length_wrote w);
-  go = λ o r x. v.go o r (same (sym e) (then w x));
-}
+pub writing_begin : (from : Writer) (whole : List ℕ) → Room from whole → Writing from whole from whole
+writing_begin from whole room = record { room = room; go = λ new w. w }
 
-pub writing_done : {old : List ℕ} {from : ℕ} {whole out : List ℕ} {at : ℕ} {left : List ℕ} → left ≡ [] → Writing old from whole out at left → Wrote old from whole out at
-writing_done {old} {from} {whole} {out} {at} {left} e v = v.go out at (same (sym e) (none out at (omega (arith, v.room))))
+pub writing_more : {from w new : Writer} {whole left : List ℕ} (a b : List ℕ) → left ≡ a ++ b → Writing from whole w left → Puts w a new → Writing from whole new b
+writing_more {from} {w} {new} {whole} {left} a b e v p = record { room = room_after a b e v.room p; go = λ o x. v.go o (puts_same (sym e) (puts_then p x)) }
 
--- what is written at the front
-pub fronted : {old text new : List ℕ} {end : ℕ} → Wrote old 0 text new end → (end ≡ length text) × (end ≤ length old) × (new ≡ text ++ drop end old)
-fronted {old} {text} {new} {end} w =
-    let e : 0 + length text ≡ end = omega (arith, w.place) in
-    (omega (arith, w.place), omega (arith, w.place, w.fits), w.after ∙ ap (λ (k : ℕ). text ++ drop k old) e)
+pub writing_done : {from w : Writer} {whole left : List ℕ} → left ≡ [] → Writing from whole w left → Puts from whole w
+writing_done {from} {w} {whole} {left} e v = v.go w (puts_same (sym e) (record { buffer = refl; wrote = none w.out.now w.place w.within }))
+
+-- what a writer has written that began at the front
+placed_first : (old out text : List ℕ) (at n : ℕ) → at ≡ 0 → old ≡ out → n ≡ length text → placed old at text ≡ text ++ drop n out
+placed_first old out text at n z e l =
+    let k : at + length text ≡ n = omega arith in
+    rw (k, z, e) refl
+
+pub fronted_by : {out : MutBor (List ℕ)} {first last : Writer} {text : List ℕ} (n : ℕ) → n ≡ length text → Fronts out first → Puts first text last
+    → buffer_of last ≡ text ++ drop n out.now
+fronted_by {out} {first} {last} {text} n e f p = p.wrote.after ∙ placed_first (buffer_of first) out.now text (place_of first) n f.place f.bytes e

@@ -1,11 +1,12 @@
-use Rattle.std.proofs.Common.{◌≡◌, ℕ, zero, suc, ◌+◌, ◌-◌, ◌*◌, ◌^◌, ◌<◌, ◌≤◌, List, length, get_or, take, decimal, sym, refl, ap, ◌∙◌, subst, arith, rules}
+use Rattle.std.proofs.Common.{◌≡◌, ℕ, zero, suc, ◌+◌, ◌-◌, ◌*◌, ◌^◌, ◌<◌, ◌≤◌, List, length, get_or, take, decimal, sym, refl, ap, ◌∙◌, subst, add-one, arith, rules}
 use native.Mathlib.Nat.{pow-le-pow_right}
+use Rattle.std.proofs.Math.Nat.{pow-suc}
 use Rattle.std.specs.Str.Parse.{digits_value, AllDigits}
 use Rattle.std.specs.Char.{digit_value}
 use Rattle.std.proofs.lemmas.Int.Digits.{digits_value_more, digits_more, digits_value-lt}
 use Rattle.std.proofs.lemmas.List.{length-take-le, take_all}
 use Rattle.std.proofs.lemmas.Str.Parse.{numerals_by_value, tells_digits, digit_at, IsNumeralModel, digits_value_short}
-use Rattle.std.proofs.lemmas.Fmt.{decimal-digits_value, decimal_digit, length-decimal-le, decimal_nonempty, first_decimal, digits_decimal, digits_value-decimal, decimal_injective}
+use Rattle.std.proofs.lemmas.Fmt.{decimal-digits_value, decimal_digit, length-decimal-le, decimal_nonempty, first_decimal, digits_decimal, digits_value-decimal}
 use Rattle.texts.specs.Cuts.{Lacks}
 use Rattle.texts.specs.Numbers.{Numeral}
 
@@ -73,10 +74,6 @@ no_digit most s i l none n w =
     let h = digit_at s i (looks most n s w).digits l in
     none (get_or s i 0 - 48) (omega arith) (omega arith)
 
--- a text is one number
-pub one_number : (most m n : ℕ) (s : List ℕ) → Numeral most m s → Numeral most n s → m ≡ n
-one_number most m n s v w = decimal_injective m n (omega (arith, v.small)) (omega (arith, w.small)) (sym v.written ∙ w.written)
-
 -- at most so many digits: below that power of ten
 pub below : (most n : ℕ) (s : List ℕ) → Numeral most n s → n < 10 ^ most
 below most n s w =
@@ -84,6 +81,14 @@ below most n s w =
     let e : digits_value 10 s ≡ n = ap (digits_value 10) w.written ∙ v in
     let b : digits_value 10 s < 10 ^ most = digits_value_short own s most (looks most n s w).digits w.few in
     omega arith
+
+-- so its digits are one more than its logarithm
+pub length_by_power : (n k : ℕ) → n < 2 ^ 64 → 10 ^ k ≤ n → n < 10 * 10 ^ k → length (decimal n) ≡ k + 1
+length_by_power n k fits low high =
+    let small : n < 10 ^ (k + 1) = rw (add-one, pow-suc 10 k) (omega arith) in
+    let most : length (decimal n) ≤ k + 1 = length-decimal-le (k + 1) n (omega arith) small fits in
+    let few : length (decimal n) ≤ k → n < 10 ^ k = λ l. omega (arith, digits_value-decimal own n fits, digits_value_short own (decimal n) k (digits_decimal own n fits) l) in
+    grind (arith, few)
 
 pub numeral_of : (most n : ℕ) → 0 < most → n < 10 ^ most → n < 10 ^ 19 → Numeral most n (decimal n)
 numeral_of most n some h small = record { few = length-decimal-le most n some h (omega arith); small = small; written = refl }

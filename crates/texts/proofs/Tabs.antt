@@ -40,13 +40,6 @@ pub length-line_of : (fields : List Field) → (length fields ≡ 0 → ⊥) →
 length-line_of [] some = absurd (some refl)
 length-line_of (field ∷ fields) some = length-line (map field_text (field ∷ fields)) (omega arith)
 
-pub size_next : (fields : List Field) (i : ℕ) → i < length fields
-    → size (map field_text (drop i fields)) ≡ length (field_text (get_or fields i blank)) + 1 + size (map field_text (drop (i + 1) fields))
-size_next fields i h = ap (λ (left : List Field). size (map field_text left)) (drop_more fields i blank h)
-
-pub size_end : (fields : List Field) (i : ℕ) → length fields ≤ i → size (map field_text (drop i fields)) ≡ 0
-size_end fields i h = ap (λ (left : List Field). size (map field_text left)) (drop_all i fields h)
-
 pub behind_next : (fields : List Field) (i : ℕ) → i < length fields
     → behind (map field_text (drop i fields)) ≡ (9 ∷ field_text (get_or fields i blank)) ++ behind (map field_text (drop (i + 1) fields))
 behind_next fields i h = ap (λ (left : List Field). behind (map field_text left)) (drop_more fields i blank h)
@@ -54,25 +47,12 @@ behind_next fields i h = ap (λ (left : List Field). behind (map field_text left
 pub behind_end : (fields : List Field) (i : ℕ) → length fields ≤ i → behind (map field_text (drop i fields)) ≡ 10 ∷ []
 behind_end fields i h = ap (λ (left : List Field). behind (map field_text left)) (drop_all i fields h)
 
-pub line_none : (fields : List Field) → length fields < 1 → line_of fields ≡ 10 ∷ []
-line_none [] h = refl
-line_none (field ∷ fields) h = absurd (omega arith)
-
 pub line_parts : (fields : List Field) → 1 ≤ length fields
     → line_of fields ≡ field_text (get_or fields 0 blank) ++ behind (map field_text (take (length fields - 1) (drop 1 fields)))
 line_parts [] h = absurd (omega arith)
 line_parts (field ∷ fields) h =
     let all : take (length (field ∷ fields) - 1) fields ≡ fields = take_all _ fields (omega arith) in
     line_first (field_text field) (map field_text fields) ∙ ap (λ (more : List Field). field_text field ++ behind (map field_text more)) (sym all)
-
-pub length_behind_next : (fields : List Field) (i : ℕ) → i < length fields
-    → length (behind (map field_text (drop i fields))) ≡ 1 + length (field_text (get_or fields i blank)) + length (behind (map field_text (drop (i + 1) fields)))
-length_behind_next fields i h =
-    ap length (behind_next fields i h) ∙ omega (arith, length-append (field_text (get_or fields i blank)) (behind (map field_text (drop (i + 1) fields))))
-
-pub length_line_parts : (fields : List Field) → 1 ≤ length fields
-    → length (line_of fields) ≡ length (field_text (get_or fields 0 blank)) + length (behind (map field_text (take (length fields - 1) (drop 1 fields))))
-length_line_parts fields h = ap length (line_parts fields h) ∙ length-append (field_text (get_or fields 0 blank)) (behind (map field_text (take (length fields - 1) (drop 1 fields))))
 
 -- no byte of a field is a tab or a line feed
 abbrev pub Unbroken : List ℕ → Type 0

@@ -1,7 +1,6 @@
-use Rattle.std.specs.Prelude.{◌≡◌, ℕ, ◌+◌, ◌/◌, ◌%◌, ◌<◌, ◌≤◌, List, [], ◌∷◌, ◌++◌, length, drop, Some, None, Option}
+use Rattle.std.specs.Prelude.{◌≡◌, ℕ, ◌/◌, ◌%◌, ◌<◌, ◌≤◌, List, [], ◌∷◌, ◌++◌, length, drop, Some, None, Option}
 use Rattle.std.specs.Char.{digit_char}
 use Rattle.std.specs.List.{AllByRecursion}
-use Rattle.texts.specs.Buffers.{placed}
 
 -- two lowercase hex digits for each byte, the upper half first
 abbrev pub hex : List ℕ → List ℕ
@@ -20,10 +19,6 @@ pub record HexOf (text bs : List ℕ) : Type 0 where
 -- text is the hex text of some bytes
 abbrev pub IsHex : List ℕ → Type 0
 IsHex text = (bs : List ℕ) × HexOf text bs
-
--- the bytes that text writes in hex, where there are such and they fit, stand in a buffer from a place on
-abbrev pub Filled : List ℕ → List ℕ → ℕ → List ℕ → Type 0
-Filled text old at new = (bs : List ℕ) → HexOf text bs → at + length bs ≤ length old → new ≡ placed old at bs
 
 -- The bytes that text writes in hex go to the front of a buffer, and its rest stays; the answer is how many they are.
 -- Where text is hex of no bytes, or of more than the buffer holds, the answer is absent and the buffer is as it was.

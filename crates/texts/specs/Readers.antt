@@ -1,12 +1,12 @@
 -- What a reader hands out of a text, line by line.
-use Rattle.std.specs.Prelude.{◌≡◌, ℕ, ◌+◌, List, [], drop, Some, None, Option, ◌≢◌}
+use Rattle.std.specs.Prelude.{◌≡◌, ℕ, ◌+◌, List, [], Some, None, Option, ◌≢◌}
 use Rattle.texts.specs.declared.reader.Line.{Line}
 use Rattle.texts.specs.declared.reader.Reader.{Reader}
 use Rattle.texts.specs.Cuts.{FirstCut, Lacks}
 
 -- the text that is not yet handed out
 abbrev pub left_of : Reader → List ℕ
-left_of r = drop r.place r.text.now
+left_of r = r.left.now
 
 -- how many lines were handed out
 abbrev pub passed_of : Reader → ℕ

@@ -7,17 +7,14 @@ const SAFE_DIGITS: usize = 19;
 fn digit(byte: u8) -> Option<u8>
     ensures { MatchOption result ((d : ℕ) → d < 10 → byte ≢ 48 + d) (λ d. (d < 10) × (byte ≡ 48 + d)) }
 {
-    match byte as char {
-        '0'..='9' => Some(byte - b'0'),
-        _ => None,
-    }
+    byte.checked_sub(b'0').filter(|d| *d < 10)
 }
 
 // The number that a field of at most so many digits writes.
 pub fn number(s: &[u8], max_digits: usize) -> Option<usize>
     ensures { MatchOption result ((n : ℕ) → Numeral max_digits n s.now → ⊥) (λ n. Numeral max_digits n s.now) }
 {
-    if s.len() == 0
+    if s.is_empty()
         || s.len() > max_digits
         || s.len() > SAFE_DIGITS
         || (s[0] == b'0' && s.len() > 1)
@@ -26,10 +23,7 @@ pub fn number(s: &[u8], max_digits: usize) -> Option<usize>
     }
     let mut n = 0;
     for byte in s {
-        let Some(d) = digit(*byte) else {
-            return None;
-        };
-        n = n * 10 + d as usize;
+        n = n * 10 + usize::from(digit(*byte)?);
     }
     Some(n)
 }

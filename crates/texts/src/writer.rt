@@ -1,8 +1,10 @@
 // Lines of fields, written into a buffer of the caller's.
-mod lines;
+mod line;
 mod put;
 
-pub use lines::{line_len, write_front, write_line};
+ghost use Rattle.std.specs.Prelude.{◌≤◌, length};
+
+pub use line::{line_len, write_front, write_line};
 pub use put::number_len;
 
 // One field of a line.
@@ -14,4 +16,31 @@ pub enum Field<'a> {
     Number(usize),
     // bytes in hex, two lowercase digits each, the upper half first
     Hex(&'a [u8]),
+}
+
+// A buffer of the caller's, and the place in it up to which it is written.
+#[derive(Drop)]
+pub struct Writer<'a> {
+    out: &'a mut [u8],
+    place: usize,
+    ghost within: { place ≤ length out.now },
+}
+
+impl<'a> Writer<'a> {
+    ghost use Rattle.std.specs.Prelude.{◌≡◌};
+    ghost use Rattle.texts.specs.Writers.{Fronts, place_of};
+
+    // A writer at the front of a buffer.
+    pub fn over(out: &'a mut [u8]) -> Writer<'a>
+        ensures { Fronts out.entry result }
+    {
+        Writer { out, place: 0 }
+    }
+
+    // How many bytes of the buffer are written.
+    pub fn place(&self) -> usize
+        ensures { result ≡ place_of self.now }
+    {
+        self.place
+    }
 }

@@ -1,44 +1,63 @@
-// Single texts, written at a place of a buffer that has room for them. Each call answers the place behind its text.
-ghost use Rattle.std.specs.Prelude.{◌≡◌, ◌+◌, ◌<◌, ◌≤◌, [], ◌∷◌, length, decimal};
+// Single texts, written where a buffer has room for them. By hand, since no text here is a `Display`: one that does not fit
+// has to be refused and leave the buffer alone, and a `fmt` promises nothing where it stops.
+ghost use Rattle.std.specs.Prelude.{◌≡◌, ◌/◌, ◌<◌, ◌≤◌, [], ◌∷◌, length, decimal};
 ghost use Rattle.std.specs.Char.{digit_char};
-ghost use Rattle.texts.specs.Buffers.{Wrote};
 ghost use Rattle.texts.specs.Hex.{hex};
+ghost use Rattle.texts.specs.Lines.{field_text};
+ghost use Rattle.texts.specs.Writers.{Puts, Room};
 
-pub(super) fn put(out: &mut [u8], at: usize, bytes: &[u8]) -> usize
-    requires { at + length bytes.now ≤ length out.old }
-    ensures { Wrote out.old at bytes.now out.new result }
-{
-    let end = at + bytes.len();
-    out[at..end].copy_from_slice(bytes);
-    end
-}
+use super::{Field, Writer};
 
-pub(super) fn put_byte(out: &mut [u8], at: usize, byte: u8) -> usize
-    requires { at < length out.old }
-    ensures { Wrote out.old at (byte ∷ []) out.new result }
-{
-    out[at] = byte;
-    at + 1
-}
-
-// A number has at most 20 digits, so that the recursion stays shallow.
-pub(super) fn put_number(out: &mut [u8], at: usize, n: usize) -> usize
-    requires { at + length (decimal n) ≤ length out.old }
-    ensures { Wrote out.old at (decimal n) out.new result }
-{
-    if n < 10 {
-        return put_byte(out, at, b'0' + n as u8);
+impl Writer<'_> {
+    fn put(&mut self, bytes: &[u8])
+        requires { Room self.old bytes.now }
+        ensures { Puts self.old bytes.now self.new }
+    {
+        let end = self.place + bytes.len();
+        self.out[self.place..end].copy_from_slice(bytes);
+        self.place = end;
     }
-    let end = put_number(out, at, n / 10);
-    put_byte(out, end, b'0' + (n % 10) as u8)
-}
 
-// How many digits a number has in decimal.
-pub fn number_len(n: usize) -> usize
-    ensures value { result ≡ length (decimal n) }
-    ensures few { result ≤ 20 }
-{
-    if n < 10 { 1 } else { number_len(n / 10) + 1 }
+    pub(crate) fn put_byte(&mut self, byte: u8)
+        requires { Room self.old (byte ∷ []) }
+        ensures { Puts self.old (byte ∷ []) self.new }
+    {
+        self.out[self.place] = byte;
+        self.place += 1;
+    }
+
+    // A number has at most 20 digits, so that the recursion stays shallow.
+    fn put_number(&mut self, n: usize)
+        requires { Room self.old (decimal n) }
+        ensures { Puts self.old (decimal n) self.new }
+    {
+        if n < 10 {
+            return self.put_byte(b'0' + n as u8);
+        }
+        self.put_number(n / 10);
+        self.put_byte(b'0' + (n % 10) as u8);
+    }
+
+    fn put_hex(&mut self, bytes: &[u8])
+        requires { Room self.old (hex bytes.now) }
+        ensures { Puts self.old (hex bytes.now) self.new }
+    {
+        for byte in bytes {
+            self.put_byte(hex_character(*byte / 16));
+            self.put_byte(hex_character(*byte % 16));
+        }
+    }
+
+    pub(super) fn put_field(&mut self, field: Field)
+        requires { Room self.old (field_text field) }
+        ensures { Puts self.old (field_text field.entry) self.new }
+    {
+        match field {
+            Field::Word(bytes) => self.put(bytes),
+            Field::Number(n) => self.put_number(n),
+            Field::Hex(bytes) => self.put_hex(bytes),
+        }
+    }
 }
 
 fn hex_character(half: u8) -> u8
@@ -52,14 +71,13 @@ fn hex_character(half: u8) -> u8
     }
 }
 
-pub(super) fn put_hex(out: &mut [u8], at: usize, bytes: &[u8]) -> usize
-    requires { at + length (hex bytes.now) ≤ length out.old }
-    ensures { Wrote out.old at (hex bytes.now) out.new result }
+// How many digits a number has in decimal.
+pub fn number_len(n: usize) -> usize
+    ensures value { result ≡ length (decimal n) }
+    ensures few { result ≤ 20 }
 {
-    let mut end = at;
-    for byte in bytes {
-        let half = put_byte(out, end, hex_character(*byte / 16));
-        end = put_byte(out, half, hex_character(*byte % 16));
+    match n.checked_ilog10() {
+        Some(log) => log as usize + 1,
+        None => 1,
     }
-    end
 }
