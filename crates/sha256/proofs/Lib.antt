@@ -4,3 +4,4 @@ pub mod Blocks
 pub mod Schedules
 pub mod Paddings
 pub mod Constants
+pub mod Maps

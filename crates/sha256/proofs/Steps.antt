@@ -1,9 +1,11 @@
 -- Runs of rounds put together, and the schedule grown by four and by sixteen words at a time.
-use Rattle.std.proofs.Common.{◌≡◌, ℕ, zero, suc, ◌+◌, ◌-◌, ◌%◌, ◌^◌, ◌<◌, ◌≤◌, List, [], ◌∷◌, ◌++◌, map, length, get_or, take, drop, sym, refl, ap, ◌∙◌, append_assoc, arith, lit<, lit≤, length-append}
+use Rattle.std.proofs.Common.{◌≡◌, ℕ, zero, suc, ◌+◌, ◌-◌, ◌/◌, ◌%◌, ◌^◌, ◌<◌, ◌≤◌, List, [], ◌∷◌, ◌++◌, map, length, get_or, take, drop, sym, refl, ap, ◌∙◌, append_assoc, append-nil, arith, w32, lit<, lit≤, length-append}
 use lib.Lanes.{zip2}
+use Rattle.std.specs.Simd.{first_chunks}
+use Rattle.std.specs.Int.{from_be_bytes}
 use Rattle.hashes.proofs.Lists.{reads_all}
 use Rattle.sha256.specs.Words.{σ0, σ1}
-use Rattle.std.proofs.lemmas.List.{get_or-append_right, length_push, drop_more, take_more, drop_all, get_or-take, length-take-le}
+use Rattle.std.proofs.lemmas.List.{get_or-append_right, length_push, drop_more, take_more, drop_all, get_or-take, length-take-le, take_at}
 use Rattle.sha256.specs.declared.compression.State.{State}
 use Rattle.sha256.specs.Schedule.{grow, grown, next, words, schedule}
 use Rattle.sha256.specs.Compression.{rounds, round}
@@ -66,18 +68,15 @@ grow_step v n t h l e =
     let g : grow (take t v) ≡ take (t + 1) v = cc in
     ap (grown n) g
 
--- two lists, element by element
-abbrev pub Same : List ℕ → List ℕ → Type 0
-Same [] [] = Unit {0}
-Same [] (y ∷ ys) = ⊥
-Same (x ∷ xs) [] = ⊥
-Same (x ∷ xs) (y ∷ ys) = (x ≡ y) × Same xs ys
+-- four words from their bytes
+pub words_in_parts : (b : List ℕ) → length b ≡ 16
+    → map (from_be_bytes w32) (get_or (first_chunks 4 4 b) 0 [] ∷ get_or (first_chunks 4 4 b) 1 [] ∷ get_or (first_chunks 4 4 b) 2 [] ∷ get_or (first_chunks 4 4 b) 3 [] ∷ []) ≡ words b
+words_in_parts b l = rw (sym (reads_all 16 b l)) refl
 
-pub same : (xs ys : List ℕ) → Same xs ys → xs ≡ ys
-same [] [] s = refl
-same [] (y ∷ ys) s = absurd s
-same (x ∷ xs) [] s = absurd s
-same (x ∷ xs) (y ∷ ys) s = ap (λ z. z ∷ xs) s.0 ∙ ap (λ zs. y ∷ zs) (same xs ys s.1)
+-- a block in four lanes
+pub words_in_lanes : (b : List ℕ) → length b ≡ 64
+    → words (get_or (first_chunks 16 4 b) 0 []) ++ (words (get_or (first_chunks 16 4 b) 1 []) ++ (words (get_or (first_chunks 16 4 b) 2 []) ++ words (get_or (first_chunks 16 4 b) 3 []))) ≡ words b
+words_in_lanes b l = rw (sym (reads_all 64 b l)) refl
 
 -- the four quarters of the schedule, and of the rounds
 pub schedule_is : (b w0 w1 w2 w3 : List ℕ) → length w1 ≡ 16 → length w2 ≡ 16 → length w3 ≡ 16
@@ -162,29 +161,42 @@ next_four_is x0 x1 x2 x3 a b c l0 l1 l2 l3 ea eb ec =
     rw (ec, eb, ea, sym (reads_all 4 x0 l0), sym (reads_all 4 x1 l1), sym (reads_all 4 x2 l2), sym (reads_all 4 x3 l3))
     (core (get_or x0 0 0) (get_or x0 1 0) (get_or x0 2 0) (get_or x0 3 0) (get_or x1 0 0) (get_or x1 1 0) (get_or x1 2 0) (get_or x1 3 0) (get_or x2 0 0) (get_or x2 1 0) (get_or x2 2 0) (get_or x2 3 0) (get_or x3 0 0) (get_or x3 1 0) (get_or x3 2 0) (get_or x3 3 0))
 
-step : (n : ℕ) (x rest y : List ℕ) → 16 ≤ length (rest ++ y) → (x ++ rest) ++ y ≡ grown 4 (x ++ rest) → grown n (grown 4 (x ++ rest)) ≡ x ++ grown n (rest ++ y)
-step n x rest y h e = ap (grown n) (sym e ∙ append_assoc x rest y) ∙ grown_front n x (rest ++ y) h
+-- what n words more put behind the words so far
+more : (n : ℕ) (w : List ℕ) → (r : List ℕ) × (grown n w ≡ w ++ r)
+unfolding grow
+more zero w = ([], sym (append-nil w))
+more (suc n) w =
+    let x : ℕ = next (get_or w (length w - 2) 0) (get_or w (length w - 7) 0) (get_or w (length w - 15) 0) (get_or w (length w - 16) 0) in
+    let rest = more n (w ++ x ∷ []) in
+    (x ∷ rest.0, rest.1 ∙ append_assoc w (x ∷ []) rest.0)
 
-regroup : (a b c d : List ℕ) → (a ++ (b ++ c)) ++ d ≡ a ++ (b ++ (c ++ d))
-regroup a b c d = simp append_assoc
+moved : (n : ℕ) (x w v : List ℕ) → length v ≡ 16 → x ++ v ≡ grown 4 w → grown n (grown 4 w) ≡ x ++ grown n v
+moved n x w v l e = ap (grown n) (sym e) ∙ grown_front n x v (omega arith)
 
-pub window_is : (x0 x1 x2 x3 y0 y1 y2 y3 : List ℕ)
-    → length x0 ≡ 4 → length x1 ≡ 4 → length x2 ≡ 4 → length x3 ≡ 4 → length y0 ≡ 4 → length y1 ≡ 4 → length y2 ≡ 4 → length y3 ≡ 4
-    → (x0 ++ (x1 ++ (x2 ++ x3))) ++ y0 ≡ grown 4 (x0 ++ (x1 ++ (x2 ++ x3)))
-    → (x1 ++ (x2 ++ (x3 ++ y0))) ++ y1 ≡ grown 4 (x1 ++ (x2 ++ (x3 ++ y0)))
-    → (x2 ++ (x3 ++ (y0 ++ y1))) ++ y2 ≡ grown 4 (x2 ++ (x3 ++ (y0 ++ y1)))
-    → (x3 ++ (y0 ++ (y1 ++ y2))) ++ y3 ≡ grown 4 (x3 ++ (y0 ++ (y1 ++ y2)))
-    → (x0 ++ (x1 ++ (x2 ++ x3))) ++ (y0 ++ (y1 ++ (y2 ++ y3))) ≡ grown 16 (x0 ++ (x1 ++ (x2 ++ x3)))
-window_is x0 x1 x2 x3 y0 y1 y2 y3 l0 l1 l2 l3 m0 m1 m2 m3 e0 e1 e2 e3 =
-    let n0 : 16 ≤ length ((x1 ++ (x2 ++ x3)) ++ y0) = simp length-append (omega arith) in
-    let n1 : 16 ≤ length ((x2 ++ (x3 ++ y0)) ++ y1) = simp length-append (omega arith) in
-    let n2 : 16 ≤ length ((x3 ++ (y0 ++ y1)) ++ y2) = simp length-append (omega arith) in
-    let f : (x0 ++ (x1 ++ (x2 ++ x3))) ++ (y0 ++ (y1 ++ (y2 ++ y3))) ≡ x0 ++ (x1 ++ (x2 ++ ((x3 ++ (y0 ++ (y1 ++ y2))) ++ y3))) = simp append_assoc in
-    f ∙ sym
-    (step 12 x0 (x1 ++ (x2 ++ x3)) y0 n0 e0
-    ∙ ap (λ r. x0 ++ grown 12 r) (regroup x1 x2 x3 y0)
-    ∙ ap (λ r. x0 ++ r) (step 8 x1 (x2 ++ (x3 ++ y0)) y1 n1 e1)
-    ∙ ap (λ r. x0 ++ (x1 ++ grown 8 r)) (regroup x2 x3 y0 y1)
-    ∙ ap (λ r. x0 ++ (x1 ++ r)) (step 4 x2 (x3 ++ (y0 ++ y1)) y2 n2 e2)
-    ∙ ap (λ r. x0 ++ (x1 ++ (x2 ++ grown 4 r))) (regroup x3 y0 y1 y2)
-    ∙ ap (λ r. x0 ++ (x1 ++ (x2 ++ r))) (sym e3))
+-- a window moved on by four words four times: the words that went by are its own, and the last window has those after them
+module _ (w0 w1 w2 w3 w4 x0 x1 x2 x3 : List ℕ)
+    (l0 : length w0 ≡ 16) (l1 : length w1 ≡ 16) (l2 : length w2 ≡ 16) (l3 : length w3 ≡ 16) (m : length (x0 ++ (x1 ++ (x2 ++ x3))) ≡ 16)
+    (e0 : x0 ++ w1 ≡ grown 4 w0) (e1 : x1 ++ w2 ≡ grown 4 w1) (e2 : x2 ++ w3 ≡ grown 4 w2) (e3 : x3 ++ w4 ≡ grown 4 w3) where
+  gone : (x0 ++ (x1 ++ (x2 ++ x3))) ++ w4 ≡ grown 16 w0
+  gone =
+      let f : (x0 ++ (x1 ++ (x2 ++ x3))) ++ w4 ≡ x0 ++ (x1 ++ (x2 ++ (x3 ++ w4))) = simp append_assoc in
+      f ∙ sym
+      (moved 12 x0 w0 w1 l1 e0
+      ∙ ap (λ r. x0 ++ r) (moved 8 x1 w1 w2 l2 e1)
+      ∙ ap (λ r. x0 ++ (x1 ++ r)) (moved 4 x2 w2 w3 l3 e2)
+      ∙ ap (λ r. x0 ++ (x1 ++ (x2 ++ r))) (sym e3))
+
+  pub words_gone : x0 ++ (x1 ++ (x2 ++ x3)) ≡ w0
+  words_gone =
+      let r = more 16 w0 in
+      sym (take_at (x0 ++ (x1 ++ (x2 ++ x3))) w4 16 m) ∙ ap (take 16) (gone ∙ r.1) ∙ take_at w0 r.0 16 l0
+
+  pub words_next : w0 ++ w4 ≡ grown 16 w0
+  words_next = ap (λ r. r ++ w4) (sym words_gone) ∙ gone
+
+-- sixteen constants as four rows
+abbrev pub Rows : List ℕ → List (List ℕ) → Type 0
+Rows k ks = (length (get_or ks 0 []) ≡ 4) × (length (get_or ks 1 []) ≡ 4) × (length (get_or ks 2 []) ≡ 4) × (get_or ks 0 [] ++ (get_or ks 1 [] ++ (get_or ks 2 [] ++ get_or ks 3 [])) ≡ k)
+
+pub rows : (k : List ℕ) → length k ≡ 16 → Rows k (first_chunks 4 (length k / 4) k)
+rows k l = rw (l, sym (reads_all 16 k l)) (refl, refl, refl, refl)

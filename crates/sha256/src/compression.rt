@@ -4,8 +4,8 @@ ghost use Rattle.sha256.specs.Compression.{round, rounds, state_sum, compressed}
 ghost use Rattle.sha256.specs.Schedule.{grown};
 ghost use Rattle.sha256.specs.Windows.{window_words};
 
-use crate::schedule::{Window, first_window, next_four};
-use crate::words::{big_sigma_0, big_sigma_1, choice, majority};
+use crate::schedule::Window;
+use crate::words::{big_sigma, choice, majority};
 use std::simd::prelude::*;
 
 // The eight working variables, or the eight words of a hash value.
@@ -28,8 +28,8 @@ fn one_round(s: State, kw: u32) -> State
     let t1 = kw
         .wrapping_add(s.h)
         .wrapping_add(choice(s.e, s.f, s.g))
-        .wrapping_add(big_sigma_1(s.e));
-    let t2 = big_sigma_0(s.a).wrapping_add(majority(s.a, s.b, s.c));
+        .wrapping_add(big_sigma::<6, 11, 25>(s.e));
+    let t2 = big_sigma::<2, 13, 22>(s.a).wrapping_add(majority(s.a, s.b, s.c));
     State {
         a: t1.wrapping_add(t2),
         b: s.a,
@@ -42,17 +42,7 @@ fn one_round(s: State, kw: u32) -> State
     }
 }
 
-// `Q` and `N` say which call it is, so that each copy has one call and is inlined there.
-fn four_rounds<const Q: usize, const N: usize>(s: State, k: [u32; 4], x: u32x4) -> State
-    ensures { result ≡ rounds s k x }
-{
-    let kw = (x + u32x4::from_array(k)).to_array();
-    let s0 = one_round(s, kw[0]);
-    let s1 = one_round(s0, kw[1]);
-    let s2 = one_round(s1, kw[2]);
-    one_round(s2, kw[3])
-}
-
+#[tactic(auto, unfolding(crate::specs::Compression::state_sum))]
 fn added(s: State, t: State) -> State
     ensures { result ≡ state_sum s t }
 {
@@ -68,73 +58,70 @@ fn added(s: State, t: State) -> State
     }
 }
 
-const K: [[u32; 4]; 16] = [
-    [0x428a2f98, 0x71374491, 0xb5c0fbcf, 0xe9b5dba5],
-    [0x3956c25b, 0x59f111f1, 0x923f82a4, 0xab1c5ed5],
-    [0xd807aa98, 0x12835b01, 0x243185be, 0x550c7dc3],
-    [0x72be5d74, 0x80deb1fe, 0x9bdc06a7, 0xc19bf174],
-    [0xe49b69c1, 0xefbe4786, 0x0fc19dc6, 0x240ca1cc],
-    [0x2de92c6f, 0x4a7484aa, 0x5cb0a9dc, 0x76f988da],
-    [0x983e5152, 0xa831c66d, 0xb00327c8, 0xbf597fc7],
-    [0xc6e00bf3, 0xd5a79147, 0x06ca6351, 0x14292967],
-    [0x27b70a85, 0x2e1b2138, 0x4d2c6dfc, 0x53380d13],
-    [0x650a7354, 0x766a0abb, 0x81c2c92e, 0x92722c85],
-    [0xa2bfe8a1, 0xa81a664b, 0xc24b8b70, 0xc76c51a3],
-    [0xd192e819, 0xd6990624, 0xf40e3585, 0x106aa070],
-    [0x19a4c116, 0x1e376c08, 0x2748774c, 0x34b0bcb5],
-    [0x391c0cb3, 0x4ed8aa4a, 0x5b9cca4f, 0x682e6ff3],
-    [0x748f82ee, 0x78a5636f, 0x84c87814, 0x8cc70208],
-    [0x90befffa, 0xa4506ceb, 0xbef9a3f7, 0xc67178f2],
+const K: [u32; 64] = [
+    0x428a2f98, 0x71374491, 0xb5c0fbcf, 0xe9b5dba5, 0x3956c25b, 0x59f111f1, 0x923f82a4, 0xab1c5ed5,
+    0xd807aa98, 0x12835b01, 0x243185be, 0x550c7dc3, 0x72be5d74, 0x80deb1fe, 0x9bdc06a7, 0xc19bf174,
+    0xe49b69c1, 0xefbe4786, 0x0fc19dc6, 0x240ca1cc, 0x2de92c6f, 0x4a7484aa, 0x5cb0a9dc, 0x76f988da,
+    0x983e5152, 0xa831c66d, 0xb00327c8, 0xbf597fc7, 0xc6e00bf3, 0xd5a79147, 0x06ca6351, 0x14292967,
+    0x27b70a85, 0x2e1b2138, 0x4d2c6dfc, 0x53380d13, 0x650a7354, 0x766a0abb, 0x81c2c92e, 0x92722c85,
+    0xa2bfe8a1, 0xa81a664b, 0xc24b8b70, 0xc76c51a3, 0xd192e819, 0xd6990624, 0xf40e3585, 0x106aa070,
+    0x19a4c116, 0x1e376c08, 0x2748774c, 0x34b0bcb5, 0x391c0cb3, 0x4ed8aa4a, 0x5b9cca4f, 0x682e6ff3,
+    0x748f82ee, 0x78a5636f, 0x84c87814, 0x8cc70208, 0x90befffa, 0xa4506ceb, 0xbef9a3f7, 0xc67178f2,
 ];
 
-// Sixteen rounds, and in turn with them the sixteen words after these.
-fn quarter<const Q: usize>(
-    s: State,
-    k0: [u32; 4],
-    k1: [u32; 4],
-    k2: [u32; 4],
-    k3: [u32; 4],
-    w: Window,
-) -> (State, Window)
-    ensures state { result.0 ≡ rounds s (k0 ++ (k1 ++ (k2 ++ k3))) (window_words w) }
-    ensures words { window_words w ++ window_words result.1 ≡ grown 16 (window_words w) }
-{
-    let x0 = next_four(w.x0, w.x1, w.x2, w.x3);
-    let s0 = four_rounds::<Q, 0>(s, k0, w.x0);
-    let x1 = next_four(w.x1, w.x2, w.x3, x0);
-    let s1 = four_rounds::<Q, 1>(s0, k1, w.x1);
-    let x2 = next_four(w.x2, w.x3, x0, x1);
-    let s2 = four_rounds::<Q, 2>(s1, k2, w.x2);
-    let x3 = next_four(w.x3, x0, x1, x2);
-    let s3 = four_rounds::<Q, 3>(s2, k3, w.x3);
-    (s3, Window { x0, x1, x2, x3 })
+// The working variables, and the sixteen words of the rounds to come.
+#[derive(Clone, Copy)]
+struct Progress {
+    state: State,
+    window: Window,
 }
 
-// The last sixteen rounds, which need no words after theirs.
-fn last_quarter(
-    s: State,
-    k0: [u32; 4],
-    k1: [u32; 4],
-    k2: [u32; 4],
-    k3: [u32; 4],
-    w: Window,
-) -> State
-    ensures { result ≡ rounds s (k0 ++ (k1 ++ (k2 ++ k3))) (window_words w) }
-{
-    let s0 = four_rounds::<3, 0>(s, k0, w.x0);
-    let s1 = four_rounds::<3, 1>(s0, k1, w.x1);
-    let s2 = four_rounds::<3, 2>(s1, k2, w.x2);
-    four_rounds::<3, 3>(s2, k3, w.x3)
+impl Progress {
+    // Four rounds, with the first lane of the window. As a call it is slower: the compiler drops the words that come after
+    // the last round only where it sees all calls at once.
+    #[inline(always)]
+    fn four_rounds(self, k: &[u32; 4]) -> Progress
+        ensures state { result.state ≡ rounds self.state k.now self.window.x0 }
+        ensures window { self.window.x0 ++ window_words result.window ≡ grown 4 (window_words self.window) }
+    {
+        let kw = (self.window.x0 + u32x4::from_array(*k)).to_array();
+        let s0 = one_round(self.state, kw[0]);
+        let s1 = one_round(s0, kw[1]);
+        let s2 = one_round(s1, kw[2]);
+        Progress {
+            state: one_round(s2, kw[3]),
+            window: self.window.four_on(),
+        }
+    }
+
+    // Sixteen rounds, with all words of the window.
+    #[inline(always)]
+    fn quarter(self, k: &[u32; 16]) -> Progress
+        ensures state { result.state ≡ rounds self.state k.now (window_words self.window) }
+        ensures window { window_words self.window ++ window_words result.window ≡ grown 16 (window_words self.window) }
+    {
+        let (k, _) = k.as_chunks::<4>();
+        self.four_rounds(&k[0])
+            .four_rounds(&k[1])
+            .four_rounds(&k[2])
+            .four_rounds(&k[3])
+    }
 }
 
-// The hash value after one block more.
+// The hash value after one block more. As a loop over the rows of K it is a tenth slower, since that works out the words
+// after the last round too.
 pub fn compress(s: State, block: &[u8; 64]) -> State
     ensures { result ≡ compressed s block.now }
 {
-    let w0 = first_window(block);
-    let (s0, w1) = quarter::<0>(s, K[0], K[1], K[2], K[3], w0);
-    let (s1, w2) = quarter::<1>(s0, K[4], K[5], K[6], K[7], w1);
-    let (s2, w3) = quarter::<2>(s1, K[8], K[9], K[10], K[11], w2);
-    let s3 = last_quarter(s2, K[12], K[13], K[14], K[15], w3);
-    added(s, s3)
+    let start = Progress {
+        state: s,
+        window: Window::first(block),
+    };
+    let (k, _) = K.as_chunks::<16>();
+    let end = start
+        .quarter(&k[0])
+        .quarter(&k[1])
+        .quarter(&k[2])
+        .quarter(&k[3]);
+    added(s, end.state)
 }

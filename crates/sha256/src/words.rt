@@ -1,10 +1,11 @@
 // The functions on words of the standard, on one word or on each of four.
-ghost use Rattle.std.specs.Prelude.{◌≡◌, map};
-ghost use Rattle.sha256.specs.Words.{ch, maj, Σ0, Σ1, σ0, σ1};
+ghost use Rattle.std.specs.Prelude.{◌≡◌, ◌<◌, map, bit_xor};
+ghost use Rattle.sha256.specs.Words.{ch, maj, rotr, shr};
 
 use std::simd::prelude::*;
 
 // Three operations where the standard's form has four.
+#[tactic(auto, using(crate::proofs::Forms::ch_is))]
 pub fn choice(x: u32, y: u32, z: u32) -> u32
     ensures { result ≡ ch x y z }
 {
@@ -12,36 +13,33 @@ pub fn choice(x: u32, y: u32, z: u32) -> u32
 }
 
 // `x ^ y` is the next round's `y ^ z`, so the compiler can work it out once.
+#[tactic(auto, using(crate::proofs::Forms::maj_is))]
 pub fn majority(x: u32, y: u32, z: u32) -> u32
     ensures { result ≡ maj x y z }
 {
     y ^ ((x ^ y) & (y ^ z))
 }
 
-pub fn big_sigma_0(x: u32) -> u32
-    ensures { result ≡ Σ0 x }
+// The standard's Σ0 and Σ1, by their three rotations.
+pub fn big_sigma<const A: u32, const B: u32, const C: u32>(x: u32) -> u32
+    requires { (0 < A) × (A < 32) × (0 < B) × (B < 32) × (0 < C) × (C < 32) }
+    ensures { result ≡ bit_xor (bit_xor (rotr A x) (rotr B x)) (rotr C x) }
 {
-    x.rotate_right(2) ^ x.rotate_right(13) ^ x.rotate_right(22)
+    x.rotate_right(A) ^ x.rotate_right(B) ^ x.rotate_right(C)
 }
 
-pub fn big_sigma_1(x: u32) -> u32
-    ensures { result ≡ Σ1 x }
+// Lanes have no rotation of their own.
+fn rotated<const N: u32>(x: u32x4) -> u32x4
+    requires { (0 < N) × (N < 32) }
+    ensures { result ≡ map (rotr N) x }
 {
-    x.rotate_right(6) ^ x.rotate_right(11) ^ x.rotate_right(25)
+    (x >> u32x4::splat(N)) | (x << u32x4::splat(32 - N))
 }
 
-pub fn small_sigma_0(x: u32x4) -> u32x4
-    ensures { result ≡ map σ0 x }
+// The standard's σ0 and σ1 in each lane, by their two rotations and their shift.
+pub fn small_sigma<const A: u32, const B: u32, const C: u32>(x: u32x4) -> u32x4
+    requires { (0 < A) × (A < 32) × (0 < B) × (B < 32) × (C < 32) }
+    ensures { result ≡ map (λ w. bit_xor (bit_xor (rotr A w) (rotr B w)) (shr C w)) x }
 {
-    ((x >> u32x4::splat(7)) | (x << u32x4::splat(25)))
-        ^ ((x >> u32x4::splat(18)) | (x << u32x4::splat(14)))
-        ^ (x >> u32x4::splat(3))
-}
-
-pub fn small_sigma_1(x: u32x4) -> u32x4
-    ensures { result ≡ map σ1 x }
-{
-    ((x >> u32x4::splat(17)) | (x << u32x4::splat(15)))
-        ^ ((x >> u32x4::splat(19)) | (x << u32x4::splat(13)))
-        ^ (x >> u32x4::splat(10))
+    rotated::<A>(x) ^ rotated::<B>(x) ^ (x >> u32x4::splat(C))
 }

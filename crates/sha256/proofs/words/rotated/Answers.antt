@@ -1,10 +1,8 @@
 use Rattle.std.proofs.Common.{◌≡◌, length, sym, refl, arith}
 use Rattle.hashes.proofs.Lists.{reads_all}
-use Rattle.sha256.specs.Words.{σ1}
-use Rattle.sha256.proofs.words.small_sigma_1.Goals as goal
+use Rattle.sha256.proofs.words.rotated.Goals as goal
 
 pub returns : goal.returns
-unfolding σ1
-returns c =
+returns g c =
     let l : length c.args.x ≡ 4 = omega arith in
     rw (sym (reads_all 4 c.args.x l)) refl
