@@ -8,11 +8,13 @@ use texts::writer::number_len;
 // Two digests in hex, of 8 and of 32 bytes, three tabs and the line feed.
 const FIXED: usize = 84;
 
-fn entry_len(number: usize, size: usize) -> usize
-    ensures value { result ≡ length (decimal number) + length (decimal size) + 84 }
-    ensures few { result ≤ 124 }
+// A line that begins with a name of that length.
+fn entry_len(name_len: usize, number: usize) -> usize
+    requires { name_len ≤ 20 }
+    ensures value { result ≡ name_len + length (decimal number) + 84 }
+    ensures few { result ≤ name_len + 104 }
 {
-    number_len(number) + number_len(size) + FIXED
+    name_len + number_len(number) + FIXED
 }
 
 // All lines but the last.
@@ -21,10 +23,8 @@ pub(crate) fn entries_len(library: &[u8]) -> usize
     ensures few { result ≤ 124 * length (recordings library.now) }
 {
     let mut total = 0;
-    let mut number = 0;
-    while let Some(recording) = recordings::recording(library, number) {
-        total += entry_len(number, recording.len());
-        number += 1;
+    for (number, recording) in recordings::all(library).enumerate() {
+        total += entry_len(number_len(number), recording.len());
     }
     total
 }
@@ -34,5 +34,5 @@ pub(crate) fn last_len(count: usize) -> usize
     ensures value { result ≡ length (decimal count) + 91 }
     ensures few { result ≤ 111 }
 {
-    b"library".len() + number_len(count) + FIXED
+    entry_len(b"library".len(), count)
 }

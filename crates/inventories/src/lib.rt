@@ -12,6 +12,7 @@ ghost use Rattle.inventories.specs.Alike.{SameRecord};
 ghost use Rattle.inventories.specs.Texts.{inventory_text};
 
 use refusals::Refusal;
+use texts::writer::Writer;
 
 // How long the record of a library is. It takes no digest, since all digests of a kind are as long.
 pub fn inventory_len(library: &[u8]) -> usize
@@ -31,6 +32,8 @@ pub fn write_inventory(library: &[u8], out: &mut [u8]) -> Result<usize, Refusal>
     if out.len() < inventory_len(library) {
         return Err(Refusal::OutputTooShort);
     }
-    let end = lines::put_entries(out, library);
-    Ok(lines::put_last(out, end, library))
+    let mut writer = Writer::over(out);
+    lines::write_recordings(&mut writer, library);
+    lines::write_last(&mut writer, library);
+    Ok(writer.place())
 }

@@ -16,13 +16,9 @@ mod tests {
     fn check_record(rt: &impl Abort, library: &[u8], text: &[u8]) -> Result<(), Fail> {
         assert_eq!(rt; inventory_len(library), text.len());
         let mut out = [7u8; 300];
-        match write_inventory(library, &mut out) {
-            Ok(length) => {
-                assert_eq!(rt; &out[0..length], text);
-                Ok(())
-            },
-            Err(_) => Err(Fail::new("refused")),
-        }
+        let length = write_inventory(library, &mut out).map_err(|_| Fail::new("refused"))?;
+        assert_eq!(rt; &out[0..length], text);
+        Ok(())
     }
 
     #[test]

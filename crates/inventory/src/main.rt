@@ -23,10 +23,8 @@ fn record(heap: Global, library: &[u8]) -> Result<Vec<u8>, AllocError>
     ensures { IfOk result (λ text. text.items ≡ inventory_text library.now) }
 {
     let mut text = vec![in heap; 0u8; inventory_len(library)]?;
-    match write_inventory(library, text.as_mut_slice()) {
-        Ok(_) => Ok(text),
-        Err(_) => unreachable(),
-    }
+    write_inventory(library, text.as_mut_slice()).unwrap();
+    Ok(text)
 }
 
 fn run(rt: &HostRuntime) -> anyhow::Result<()> {
