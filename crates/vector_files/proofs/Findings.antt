@@ -3,6 +3,7 @@ use Rattle.std.proofs.lemmas.List.{take_at}
 use Rattle.texts.proofs.Hexes.{same_bytes}
 use Rattle.hashes.specs.Digests.{digest_bytes}
 use Rattle.hashes.specs.declared.digest.Digest.{Digest}
+use Rattle.vector_files.specs.declared.check.Digests.{Digests}
 use Rattle.vector_files.specs.declared.check.Outcome.{Outcome}
 use Rattle.vector_files.specs.declared.check.Outcome.TheVariants.{Agrees, Differs}
 use Rattle.vector_files.specs.declared.vector.Fault.{Fault}
@@ -11,7 +12,7 @@ use Rattle.vector_files.specs.declared.vector.Message.{Message}
 use Rattle.vector_files.specs.declared.vector.Message.TheVariants.{Text, Hex, Repeat}
 use Rattle.vector_files.specs.declared.vector.Vector.{Vector}
 use Rattle.vector_files.specs.Vectors.{GoodMessage, GoodVector, Means, DigestField, hashed}
-use Rattle.vector_files.specs.Checks.{Expanded, Tells, CheckedVector, NotExpanded, no_bytes, too_long, NotChecked, no_digest, no_message}
+use Rattle.vector_files.specs.Checks.{BothAre, Expanded, Tells, CheckedVector, NotExpanded, no_bytes, too_long, NotChecked, no_digest, no_message}
 
 -- a digest is the expected one exactly when the expected field is its text
 told : (v : Vector) (expected d e found : List ℕ) (o : Outcome) → DigestField v.hash v.expected.now expected → d ≡ found → e ≡ found
@@ -21,17 +22,15 @@ told v expected d e found Differs f p q n = λ g.
     let k = same_bytes v.expected.now found expected g.hex f.hex in
     n (p ∙ k, q ∙ k)
 
-pub reported : (v : Vector) (old new : List ℕ) (n : ℕ) (expected digest pieces : Digest) (o : Outcome)
-    → DigestField v.hash v.expected.now (digest_bytes expected) → Expanded v.message old new (Ok n)
-    → (digest_bytes digest ≡ hashed v.hash (take (n - 0) new)) × (digest_bytes pieces ≡ hashed v.hash (take (n - 0) new))
-    → Tells o ((digest_bytes digest ≡ digest_bytes expected) × (digest_bytes pieces ≡ digest_bytes expected))
-    → CheckedVector v old new (Ok (record { length = n; digest = digest; outcome = o }))
-reported v old new n expected digest pieces o f (bytes, m, l, i) (p, q) t =
+pub reported : (v : Vector) (old new : List ℕ) (n : ℕ) (expected : Digest) (d : Digests) (o : Outcome)
+    → DigestField v.hash v.expected.now (digest_bytes expected) → Expanded v.message old new (Ok n) → BothAre (hashed v.hash (take (n - 0) new)) d
+    → Tells o (BothAre (digest_bytes expected) d) → CheckedVector v old new (Ok (record { length = n; digest = d.whole; outcome = o }))
+reported v old new n expected d o f (bytes, m, l, i) (p, q) t =
     let z : length bytes ≡ n - 0 = omega arith in
     let e : take (n - 0) new ≡ bytes = ap (take (n - 0)) i.after ∙ take_at bytes (drop (length bytes) old) (n - 0) z in
-    let a : digest_bytes digest ≡ hashed v.hash bytes = p ∙ ap (hashed v.hash) e in
-    let b : digest_bytes pieces ≡ hashed v.hash bytes = q ∙ ap (hashed v.hash) e in
-    (bytes, m, i, record { length = sym l; digest = a; expected = (digest_bytes expected, f); outcome = told v (digest_bytes expected) (digest_bytes digest) (digest_bytes pieces) (hashed v.hash bytes) o f a b t })
+    let a : digest_bytes d.whole ≡ hashed v.hash bytes = p ∙ ap (hashed v.hash) e in
+    let b : digest_bytes d.in_pieces ≡ hashed v.hash bytes = q ∙ ap (hashed v.hash) e in
+    (bytes, m, i, record { length = sym l; digest = a; expected = (digest_bytes expected, f); outcome = told v (digest_bytes expected) (digest_bytes d.whole) (digest_bytes d.in_pieces) (hashed v.hash bytes) o f a b t })
 
 -- a good message has bytes, and so only its length can be in the way
 has_bytes : (m : Message) → GoodMessage m → (bytes : List ℕ) × Means m bytes

@@ -4,5 +4,5 @@ pub mod Messages
 pub mod Readings
 pub mod Walks
 pub mod Expansions
-pub mod Portions
 pub mod Findings
+pub mod Tallies

@@ -1,14 +1,10 @@
-use Rattle.std.proofs.Common.{◌≡◌, ℕ, ◌-◌, ◌≤◌, false, List, [], ◌∷◌, length, get_or, take, drop, Some, None, codes, decimal, Decides, Option, sym, ap, ◌∙◌, subst, arith, Bor, MatchOption}
-use borrow.Author.Tests.{clash}
-use Rattle.std.proofs.lemmas.List.{take_all, take_at}
+use Rattle.std.proofs.Common.{◌≡◌, ℕ, ◌-◌, ◌≤◌, List, [], ◌∷◌, length, get_or, take, drop, Some, codes, decimal, sym, ap, ◌∙◌, subst, arith, Bor}
+use Rattle.std.proofs.lemmas.List.{take_all}
 use Rattle.texts.specs.Hex.{HexOf, IsHex, Decoded}
 use Rattle.texts.proofs.Hexes.{same_bytes}
-use Rattle.hashes.specs.Digests.{DigestLength, digest_bytes}
-use Rattle.hashes.specs.declared.digest.Digest.{Digest}
 use Rattle.texts.specs.Numbers.{Numeral}
 use Rattle.texts.proofs.Numerals.{below, numeral_of}
 use Rattle.vector_files.specs.declared.vector.HashName.{HashName}
-use Rattle.vector_files.specs.declared.vector.HashName.TheVariants.{Fnv1a64, Sha256}
 use Rattle.vector_files.specs.declared.vector.Message.{Message}
 use Rattle.vector_files.specs.declared.vector.Message.TheVariants.{Text, Hex, Repeat}
 use Rattle.vector_files.specs.declared.vector.Fault.TheVariants as fault
@@ -55,40 +51,19 @@ pub bad_repeat : (form field : List ℕ) → form ≡ codes "repeat" → ((b n :
     → WrongMessage form field fault.Message
 bad_repeat form field e none = no_message (Repeat 0 0) e (is_repeat_only form field e none)
 
-other : (form : List ℕ) → (form ≡ codes "text" → ⊥) → (form ≡ codes "hex" → ⊥) → (form ≡ codes "repeat" → ⊥) → (m : Message) → form ≡ form_word m → ⊥
-other form t h r (Text s) e = t e
-other form t h r (Hex s) e = h e
-other form t h r (Repeat b n) e = r e
-
-pub bad_form : (form field : List ℕ) → (form ≡ codes "text" → ⊥) → (form ≡ codes "hex" → ⊥) → (form ≡ codes "repeat" → ⊥) → WrongMessage form field fault.Form
-bad_form form field t h r = no_form (other form t h r)
-
-pub refuted : {P : Type 0} → Decides false P → P → ⊥
-refuted d p = clash (d.1 p)
+-- a form is told by its length and its bytes
+pub bad_form : (form field : List ℕ) → (length form ≡ 4 → get_or form 0 0 ≡ 116 → get_or form 1 0 ≡ 101 → get_or form 2 0 ≡ 120 → get_or form 3 0 ≡ 116 → ⊥)
+    → (length form ≡ 3 → get_or form 0 0 ≡ 104 → get_or form 1 0 ≡ 101 → get_or form 2 0 ≡ 120 → ⊥)
+    → (length form ≡ 6 → get_or form 0 0 ≡ 114 → get_or form 1 0 ≡ 101 → get_or form 2 0 ≡ 112 → get_or form 3 0 ≡ 101 → get_or form 4 0 ≡ 97 → get_or form 5 0 ≡ 116 → ⊥) → WrongMessage form field fault.Form
+bad_form form field t h r = no_form other
+  where
+    other : (m : Message) → form ≡ form_word m → ⊥
+    other (Text s) e = t (ap length e) (ap (λ (s : List ℕ). get_or s 0 0) e) (ap (λ (s : List ℕ). get_or s 1 0) e) (ap (λ (s : List ℕ). get_or s 2 0) e) (ap (λ (s : List ℕ). get_or s 3 0) e)
+    other (Hex s) e = h (ap length e) (ap (λ (s : List ℕ). get_or s 0 0) e) (ap (λ (s : List ℕ). get_or s 1 0) e) (ap (λ (s : List ℕ). get_or s 2 0) e)
+    other (Repeat b n) e = r (ap length e) (ap (λ (s : List ℕ). get_or s 0 0) e) (ap (λ (s : List ℕ). get_or s 1 0) e) (ap (λ (s : List ℕ). get_or s 2 0) e) (ap (λ (s : List ℕ). get_or s 3 0) e) (ap (λ (s : List ℕ). get_or s 4 0) e) (ap (λ (s : List ℕ). get_or s 5 0) e)
 
 -- digests
-width_some : (h : HashName) → 1 ≤ hash_width h
-width_some Fnv1a64 = omega arith
-width_some Sha256 = omega arith
-
-width_few : (h : HashName) → hash_width h ≤ 32
-width_few Fnv1a64 = omega arith
-width_few Sha256 = omega arith
-
 pub other_width : (h : HashName) (s old new : List ℕ) (count : ℕ) → Decoded s old new (Some count) → (count ≡ hash_width h → ⊥)
     → (bytes : List ℕ) → DigestField h s bytes → ⊥
 other_width h s old new count (bs, g, l, _, _) ne bytes d =
     ne (sym l ∙ ap length (same_bytes s bs bytes g d.hex) ∙ d.width)
-
-pub digest_read : (h : HashName) (s old new : List ℕ) (count : ℕ) (r : Option Digest)
-    → Decoded s old new (Some count) → count ≡ hash_width h
-    → MatchOption r (DigestLength (length (take (count - 0) new)) → ⊥) (λ d. DigestLength (length (take (count - 0) new)) × (digest_bytes d ≡ take (count - 0) new))
-    → MatchOption r ((bytes : List ℕ) → DigestField h s bytes → ⊥) (λ d. DigestField h s (digest_bytes d))
-digest_read h s old new count r (bs, g, l, f, e) w =
-    let z : length bs ≡ count - 0 = omega arith in
-    let t : take (count - 0) new ≡ bs = ap (take (count - 0)) e ∙ take_at bs (drop count old) (count - 0) z in
-    elim r as (λ r. MatchOption r (DigestLength (length (take (count - 0) new)) → ⊥) (λ d. DigestLength (length (take (count - 0) new)) × (digest_bytes d ≡ take (count - 0) new))
-    → MatchOption r ((bytes : List ℕ) → DigestField h s bytes → ⊥) (λ d. DigestField h s (digest_bytes d))) [
-      | None ↦ λ n. absurd (n (record { some = omega (arith, ap length t, width_some h); few = omega (arith, ap length t, width_few h) }))
-      | Some d ↦ λ p. record { hex = subst (HexOf s) (sym (p.1 ∙ t)) g; width = ap length (p.1 ∙ t) ∙ l ∙ w }
-    ]

@@ -1,4 +1,5 @@
-use Rattle.std.proofs.Common.{◌≡◌, ℕ, List, [], ◌∷◌, ◌++◌, sym, refl, ap, ◌∙◌, subst}
+use Rattle.std.proofs.Common.{◌≡◌, ℕ, List, [], ◌∷◌, ◌++◌, true, is_some, Some, None, Option, MatchOption, Bor, sym, refl, ap, ◌∙◌, subst}
+use borrow.Author.Tests.{clash}
 use Rattle.texts.specs.Cuts.{FirstCut, Lacks}
 use Rattle.texts.proofs.Pieces.{one_cut, no_cut}
 use Rattle.texts.specs.Lines.{tabbed}
@@ -28,8 +29,10 @@ no_rest s a b x rest fs c none p = none (after_first s a b x rest fs c p).1
 pub last_lacks : (s a : List ℕ) → Parted s (a ∷ []) → Lacks 9 s
 last_lacks s a p = subst (Lacks 9) (sym p.whole) p.no_tab.0
 
-pub no_more : (s a x rest : List ℕ) → FirstCut 9 s x rest → Parted s (a ∷ []) → ⊥
-no_more s a x rest c p = no_cut 9 s x rest (last_lacks s a p) c
+pub no_more : (s a : List ℕ) (r : Option (Bor (List ℕ) × Bor (List ℕ))) → MatchOption r (Lacks 9 s) (λ p. FirstCut 9 s p.0.now p.1.now) → is_some r ≡ true
+    → Parted s (a ∷ []) → ⊥
+no_more s a (Some (x, rest)) c e p = no_cut 9 s x.now rest.now (last_lacks s a p) c
+no_more s a None c e p = absurd (clash e)
 
 -- a line has its fields only once
 pub one_more : (s a b a' b' : List ℕ) (fs gs : List (List ℕ)) → Parted s (a ∷ (b ∷ fs)) → Parted s (a' ∷ (b' ∷ gs))

@@ -1,4 +1,5 @@
-use Rattle.std.proofs.Common.{◌≡◌, ℕ, ◌<◌, true, List, [], ◌∷◌, length, is_some, Some, None, Err, Option, Result, sym, refl, ap, ◌∙◌, subst, arith, length-append}
+use Rattle.std.proofs.Common.{◌≡◌, ℕ, ◌<◌, true, List, [], ◌∷◌, length, is_some, Some, None, Err, Option, Result, MatchOption, sym, refl, ap, ◌∙◌, subst, arith, length-append}
+use Rattle.std.specs.Option.{IsSomeAnd}
 use borrow.Author.Tests.{clash}
 use Rattle.texts.specs.Cuts.{FirstCut, Lacks}
 use Rattle.texts.specs.Readers.{left_of, passed_of, RestLine, Passes}
@@ -49,7 +50,7 @@ a_line was is new l v s c p n r =
     s.then _ (passed_of new) (left_of new)
     (subst (λ (k : ℕ). NextEntry (passed_of is) (left_of is) (Some (record { line = l.number; vector = v })) k (left_of new)) (sym p.passed) (line c n p.number r))
 
-pub at_rest : (was is mid new : Reader) (l : Line) → Still was is → Lacks 10 (left_of is) → mid ≡ is → RestLine mid new (Some l)
+at_rest : (was is mid new : Reader) (l : Line) → Still was is → Lacks 10 (left_of is) → mid ≡ is → RestLine mid new (Some l)
     → NextEntry (passed_of was) (left_of was) (Some (record { line = l.number; vector = Err Unended })) (passed_of new) (left_of new)
 at_rest was is mid new l s n same (some, b, e, p) =
     let r : Option Entry = Some (record { line = l.number; vector = Err Unended }) in
@@ -59,10 +60,19 @@ at_rest was is mid new l s n same (some, b, e, p) =
     (subst (λ (t : List ℕ). NextEntry (passed_of is) (left_of is) r (passed_of new) t) (sym e)
     (subst (λ (k : ℕ). NextEntry (passed_of is) (left_of is) r k []) (sym q.passed) (unended n o q.number refl)))
 
-pub at_end : (was is mid new : Reader) → Still was is → mid ≡ is → RestLine mid new None
+at_end : (was is mid new : Reader) → Still was is → mid ≡ is → RestLine mid new None
     → NextEntry (passed_of was) (left_of was) None (passed_of new) (left_of new)
 at_end was is mid new s same (e, f) =
     let z : left_of is ≡ [] = subst (λ (x : Reader). left_of x ≡ []) same e in
     s.then None (passed_of new) (left_of new)
     (subst (λ (x : Reader). NextEntry (passed_of is) (left_of is) None (passed_of x) (left_of x)) (sym (f ∙ same))
     (subst (λ (t : List ℕ). NextEntry (passed_of is) t None (passed_of is) t) (sym z) ends))
+
+-- behind the last line feed
+pub at_last : (was is mid new : Reader) (o : Option Line) (r : Option Entry) (Post : Line → Entry → Type 0) → Still was is → Lacks 10 (left_of is) → mid ≡ is
+    → RestLine mid new o → MatchOption o (r ≡ None) (λ l. IsSomeAnd r (Post l))
+    → ((l : Line) (e : Entry) → Post l e → e ≡ record { line = l.number; vector = Err Unended })
+    → NextEntry (passed_of was) (left_of was) r (passed_of new) (left_of new)
+at_last was is mid new None r P s n same k e f = rw e (at_end was is mid new s same k)
+at_last was is mid new (Some l) None P s n same k e f = absurd e
+at_last was is mid new (Some l) (Some e) P s n same k p f = rw (f l e p) (at_rest was is mid new l s n same k)

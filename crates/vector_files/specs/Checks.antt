@@ -1,6 +1,7 @@
 -- What the check of a vector answers.
 use Rattle.std.specs.Prelude.{◌≡◌, ℕ, ◌<◌, ◌≤◌, List, ◌++◌, length, drop, Ok, Err, Result}
 use Rattle.hashes.specs.Digests.{digest_bytes}
+use Rattle.vector_files.specs.declared.check.Digests.{Digests}
 use Rattle.vector_files.specs.declared.check.Outcome.{Outcome}
 use Rattle.vector_files.specs.declared.check.Outcome.TheVariants.{Agrees, Differs}
 use Rattle.vector_files.specs.declared.check.Report.{Report}
@@ -25,6 +26,10 @@ abbrev pub Expanded : Message → List ℕ → List ℕ → Result ℕ Fault →
 Expanded m old new (Ok n) = (bytes : List ℕ) × Means m bytes × (length bytes ≡ n) × InFront bytes old new
 Expanded m old new (Err f) = NotExpanded m (length old) f × (new ≡ old)
 
+-- both digests of a string have these bytes
+abbrev pub BothAre : List ℕ → Digests → Type 0
+BothAre bytes d = (digest_bytes d.whole ≡ bytes) × (digest_bytes d.in_pieces ≡ bytes)
+
 -- `Agrees` says that P holds, and `Differs` that it does not
 abbrev pub Tells : Outcome → Type 0 → Type 0
 Tells Agrees P = P
@@ -48,3 +53,8 @@ pub data NotChecked (v : Vector) (room : ℕ) : Fault → Type 0 where
 abbrev pub CheckedVector : Vector → List ℕ → List ℕ → Result Report Fault → Type 0
 CheckedVector v old new (Ok r) = (bytes : List ℕ) × Means v.message bytes × InFront bytes old new × Reports v bytes r
 CheckedVector v old new (Err f) = NotChecked v (length old) f × (new ≡ old)
+
+-- the same for a line that was read, where it may be that it holds no vector
+abbrev pub CheckedReading : Result Vector Fault → List ℕ → List ℕ → Result Report Fault → Type 0
+CheckedReading (Ok v) old new r = CheckedVector v old new r
+CheckedReading (Err f) old new r = (r ≡ Err f) × (new ≡ old)

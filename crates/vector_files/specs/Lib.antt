@@ -3,3 +3,4 @@ pub mod Vectors
 pub mod Entries
 pub mod Checks
 pub mod Records
+pub mod Tallies

@@ -7,8 +7,6 @@ use Rattle.vector_files.specs.declared.check.Outcome.{Outcome}
 use Rattle.vector_files.specs.declared.check.Outcome.TheVariants.{Agrees, Differs}
 use Rattle.vector_files.specs.declared.check.Report.{Report}
 use Rattle.vector_files.specs.declared.entry.Entry.{Entry}
-use Rattle.vector_files.specs.declared.record.Finding.{Finding}
-use Rattle.vector_files.specs.declared.record.Finding.TheVariants.{Checked, Malformed}
 use Rattle.vector_files.specs.declared.record.Record.{Record}
 use Rattle.vector_files.specs.declared.tally.Tally.{Tally}
 use Rattle.vector_files.specs.declared.vector.Fault.{Fault}
@@ -17,10 +15,10 @@ use Rattle.vector_files.specs.declared.vector.Vector.{Vector}
 use Rattle.vector_files.specs.Checks.{CheckedVector}
 
 -- what is found of an entry, under which name, and the buffer after it
-abbrev pub Found : Result Vector Fault → List ℕ → List ℕ → List ℕ → Finding → Type 0
-Found (Err f) old new name finding = (finding ≡ Malformed f) × (name ≡ []) × (new ≡ old)
-Found (Ok v) old new name (Checked r) = (name ≡ v.name.now) × CheckedVector v old new (Ok r)
-Found (Ok v) old new name (Malformed f) = (name ≡ []) × CheckedVector v old new (Err f)
+abbrev pub Found : Result Vector Fault → List ℕ → List ℕ → List ℕ → Result Report Fault → Type 0
+Found (Err f) old new name finding = (finding ≡ Err f) × (name ≡ []) × (new ≡ old)
+Found (Ok v) old new name (Ok r) = (name ≡ v.name.now) × CheckedVector v old new (Ok r)
+Found (Ok v) old new name (Err f) = (name ≡ []) × CheckedVector v old new (Err f)
 
 -- the record of an entry
 pub record Examined (e : Entry) (old new : List ℕ) (r : Record) : Type 0 where
@@ -39,9 +37,9 @@ abbrev pub counted_outcome : Tally → Outcome → Tally
 counted_outcome t Agrees = record { vectors = one_more t.vectors; ok = one_more t.ok; differ = t.differ; malformed = t.malformed }
 counted_outcome t Differs = record { vectors = one_more t.vectors; ok = t.ok; differ = one_more t.differ; malformed = t.malformed }
 
-abbrev pub counted : Tally → Finding → Tally
-counted t (Checked r) = counted_outcome t r.outcome
-counted t (Malformed f) = record { vectors = one_more t.vectors; ok = t.ok; differ = t.differ; malformed = one_more t.malformed }
+abbrev pub counted : Tally → Result Report Fault → Tally
+counted t (Ok r) = counted_outcome t r.outcome
+counted t (Err f) = record { vectors = one_more t.vectors; ok = t.ok; differ = t.differ; malformed = one_more t.malformed }
 
 -- the words
 abbrev pub word_of_outcome : Outcome → List ℕ
@@ -68,9 +66,9 @@ abbrev pub malformed_line : ℕ → Fault → List ℕ
 malformed_line number f = line (codes "line" ∷ (decimal number ∷ (codes "malformed" ∷ (words_of_fault f ∷ []))))
 
 -- the line of a record
-abbrev pub finding_line : ℕ → List ℕ → Finding → List ℕ
-finding_line number name (Checked r) = checked_line name r
-finding_line number name (Malformed f) = malformed_line number f
+abbrev pub finding_line : ℕ → List ℕ → Result Report Fault → List ℕ
+finding_line number name (Ok r) = checked_line name r
+finding_line number name (Err f) = malformed_line number f
 
 abbrev pub record_line : Record → List ℕ
 record_line r = finding_line r.line r.name.now r.finding

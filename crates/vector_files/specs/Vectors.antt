@@ -80,6 +80,15 @@ pub record DigestField (h : HashName) (s bytes : List ℕ) : Type 0 where
   pub hex : HexOf s bytes
   pub width : length bytes ≡ hash_width h
 
+-- the answer is right, or there is no right one and the answer is this fault
+abbrev pub OrFault : {A : Type 0} → Fault → Type 0 → (A → Type 0) → Result A Fault → Type 0
+OrFault fault none right (Ok x) = right x
+OrFault fault none right (Err f) = (f ≡ fault) × none
+
+-- the hash that a word names, or that it names none
+abbrev pub NamesHash : List ℕ → Result HashName Fault → Type 0
+NamesHash word r = OrFault fault.Hash ((h : HashName) → word ≢ hash_word h) (λ h. word ≡ hash_word h) r
+
 -- a vector that a line can hold
 pub record GoodVector (v : Vector) : Type 0 where
   pub name : GoodName v.name.now

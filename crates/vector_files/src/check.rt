@@ -1,7 +1,7 @@
 // Checking one vector: its message is hashed twice, in one piece and in many.
 ghost use Rattle.std.specs.Prelude.{◌≡◌, IfErr};
 ghost use Rattle.hashes.specs.Digests.{digest_bytes};
-ghost use Rattle.vector_files.specs.Checks.{Expanded, Tells, CheckedVector};
+ghost use Rattle.vector_files.specs.Checks.{BothAre, Expanded, Tells, CheckedVector};
 ghost use Rattle.vector_files.specs.Vectors.{GoodVector, hashed};
 
 use crate::fields::read_digest;
@@ -13,7 +13,7 @@ use sha256::running::Sha256;
 use texts::hex::{decode_hex, is_hex};
 
 // Whether the digest found is the expected one.
-#[derive(Clone, Copy)]
+#[derive(Clone, Copy, PartialEq, Eq, Debug)]
 pub enum Outcome {
     Agrees,
     Differs,
@@ -43,10 +43,7 @@ pub fn expand(message: Message, buffer: &mut [u8]) -> Result<usize, Fault>
             if !is_hex(digits) {
                 return Err(Fault::Message);
             }
-            match decode_hex(digits, buffer) {
-                Some(count) => Ok(count),
-                None => Err(Fault::TooLong),
-            }
+            decode_hex(digits, buffer).ok_or(Fault::TooLong)
         }
         Message::Repeat { byte, count } => {
             if count > buffer.len() {
@@ -63,42 +60,55 @@ pub fn digest_in_pieces<H: RunningHash>(bytes: &[u8]) -> Digest
     ensures { digest_bytes result ≡ H.RunningHash.start bytes.now }
 {
     let mut hash = H::fresh();
-    let mut done = 0;
-    let mut size = 1;
-    while size < bytes.len() - done {
-        hash.absorb(&bytes[done..done + size]);
-        done += size;
-        size += 1;
+    let mut rest = bytes;
+    for size in 1..bytes.len() {
+        let Some((piece, behind)) = rest.split_at_checked(size) else {
+            break;
+        };
+        hash.absorb(piece);
+        rest = behind;
     }
-    hash.absorb(&bytes[done..]);
+    hash.absorb(rest);
     hash.digest()
 }
 
-// Both digests of a string under one hash.
-fn both<H: RunningHash>(bytes: &[u8]) -> (Digest, Digest)
-    ensures { (digest_bytes result.0 ≡ H.RunningHash.start bytes.now) × (digest_bytes result.1 ≡ H.RunningHash.start bytes.now) }
-{
-    (digest_of::<H>(bytes), digest_in_pieces::<H>(bytes))
+// The digest of a string in one piece, and in pieces.
+#[derive(Clone, Copy)]
+struct Digests {
+    whole: Digest,
+    in_pieces: Digest,
 }
 
-// The digest of a string in one piece, and in pieces.
-fn digests(hash: HashName, bytes: &[u8]) -> (Digest, Digest)
-    ensures { (digest_bytes result.0 ≡ hashed hash bytes.now) × (digest_bytes result.1 ≡ hashed hash bytes.now) }
-{
-    match hash {
-        HashName::Fnv1a64 => both::<Fnv1a64>(bytes),
-        HashName::Sha256 => both::<Sha256>(bytes),
+impl Digests {
+    fn of<H: RunningHash>(bytes: &[u8]) -> Digests
+        ensures { BothAre (H.RunningHash.start bytes.now) result }
+    {
+        Digests {
+            whole: digest_of::<H>(bytes),
+            in_pieces: digest_in_pieces::<H>(bytes),
+        }
+    }
+
+    // Both have to be the expected one.
+    fn compare(&self, expected: Digest) -> Outcome
+        ensures { Tells result (BothAre (digest_bytes expected) self.now) }
+    {
+        if self.whole == expected && self.in_pieces == expected {
+            Outcome::Agrees
+        } else {
+            Outcome::Differs
+        }
     }
 }
 
-// Both digests have to be the expected one.
-fn compare(expected: Digest, digest: Digest, in_pieces: Digest) -> Outcome
-    ensures { Tells result ((digest_bytes digest ≡ digest_bytes expected) × (digest_bytes in_pieces ≡ digest_bytes expected)) }
-{
-    if digest == expected && in_pieces == expected {
-        Outcome::Agrees
-    } else {
-        Outcome::Differs
+impl HashName {
+    fn digests(self, bytes: &[u8]) -> Digests
+        ensures { BothAre (hashed self bytes.now) result }
+    {
+        match self {
+            HashName::Fnv1a64 => Digests::of::<Fnv1a64>(bytes),
+            HashName::Sha256 => Digests::of::<Sha256>(bytes),
+        }
     }
 }
 
@@ -108,17 +118,12 @@ pub fn check(vector: Vector, buffer: &mut [u8]) -> Result<Report, Fault>
     ensures checks { CheckedVector vector.entry buffer.old buffer.new result }
     ensures good { GoodVector vector.entry → IfErr result (λ f. f ≡ Fault.TooLong) }
 {
-    let Some(expected) = read_digest(vector.hash, vector.expected) else {
-        return Err(Fault::Digest);
-    };
-    let length = match expand(vector.message, buffer) {
-        Ok(length) => length,
-        Err(fault) => return Err(fault),
-    };
-    let (digest, in_pieces) = digests(vector.hash, &buffer[0..length]);
+    let expected = read_digest(vector.hash, vector.expected)?;
+    let length = expand(vector.message, buffer)?;
+    let digests = vector.hash.digests(&buffer[0..length]);
     Ok(Report {
         length,
-        digest,
-        outcome: compare(expected, digest, in_pieces),
+        digest: digests.whole,
+        outcome: digests.compare(expected),
     })
 }

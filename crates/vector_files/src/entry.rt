@@ -17,10 +17,7 @@ pub struct Entry<'a> {
 fn is_remark(line: &[u8]) -> bool
     ensures { Decides result (Remark line.now) }
 {
-    match line {
-        [] => true,
-        [first, ..] => *first == b'#',
-    }
+    matches!(line, [] | [b'#', ..])
 }
 
 // The next entry, past all remarks; absent at the end of the text.
@@ -35,11 +32,8 @@ pub fn next_entry<'a>(reader: &mut Reader<'a>) -> Option<Entry<'a>>
             });
         }
     }
-    match reader.rest() {
-        Some(line) => Some(Entry {
-            line: line.number,
-            vector: Err(Fault::Unended),
-        }),
-        None => None,
-    }
+    reader.rest().map(|line| Entry {
+        line: line.number,
+        vector: Err(Fault::Unended),
+    })
 }

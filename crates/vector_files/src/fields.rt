@@ -1,17 +1,14 @@
 // The fields of a line, each read by itself.
-ghost use Rattle.std.specs.Prelude.{◌≡◌, ℕ, List, Decides, MatchOption, ◌≢◌};
+ghost use Rattle.std.specs.Prelude.{◌≡◌, ℕ, List, Decides, MatchOption};
 ghost use Rattle.std.specs.List.{AllByRecursion};
 ghost use Rattle.texts.specs.Cuts.{Lacks};
 ghost use Rattle.hashes.specs.Digests.{digest_bytes};
 ghost use Rattle.vector_files.specs.Tabs.{Five};
-ghost use Rattle.vector_files.specs.Vectors.{hash_word, hash_width, Printable, Repeats, GoodName, ReadMessage, DigestField};
+ghost use Rattle.vector_files.specs.Vectors.{Printable, Repeats, GoodName, OrFault, ReadMessage, DigestField};
 
 use crate::vector::{Fault, HashName, Message};
-use hashes::RunningHash;
 use hashes::digest::Digest;
-use hashes::fnv::Fnv1a64;
-use sha256::running::Sha256;
-use texts::fields::{cut, same};
+use texts::fields::cut;
 use texts::hex::{decode_hex, hex_byte, is_hex};
 use texts::number::number;
 
@@ -29,67 +26,38 @@ pub(crate) struct Fields<'a> {
 pub(crate) fn five_fields(line: &[u8]) -> Option<Fields<'_>>
     ensures { MatchOption result ((a b c d e : List ℕ) → Five line.now a b c d e → ⊥) (λ f. Five line.now f.name.now f.hash.now f.form.now f.message.now f.digest.now) }
 {
-    let Some((name, rest)) = cut(line, b'\t') else {
+    let (name, rest) = cut(line, b'\t')?;
+    let (hash, rest) = cut(rest, b'\t')?;
+    let (form, rest) = cut(rest, b'\t')?;
+    let (message, digest) = cut(rest, b'\t')?;
+    if cut(digest, b'\t').is_some() {
         return None;
-    };
-    let Some((hash, rest)) = cut(rest, b'\t') else {
-        return None;
-    };
-    let Some((form, rest)) = cut(rest, b'\t') else {
-        return None;
-    };
-    let Some((message, digest)) = cut(rest, b'\t') else {
-        return None;
-    };
-    match cut(digest, b'\t') {
-        Some(_) => None,
-        None => Some(Fields {
-            name,
-            hash,
-            form,
-            message,
-            digest,
-        }),
     }
+    Some(Fields {
+        name,
+        hash,
+        form,
+        message,
+        digest,
+    })
 }
 
 // Whether all bytes are printable characters of ASCII.
 fn printable(s: &[u8]) -> bool
     ensures { Decides result (AllByRecursion Printable s.now) }
 {
-    for b in s {
-        if *b < b' ' || *b > b'~' {
-            return false;
-        }
-    }
-    true
+    s.iter().all(|b| (b' '..=b'~').contains(b))
 }
 
 // A name, which does not look like a remark.
-pub(crate) fn read_name(field: &[u8]) -> Option<&str>
-    ensures { MatchOption result (GoodName field.now → ⊥) (λ s. GoodName field.now × (s.now ≡ field.now)) }
+pub(crate) fn read_name(field: &[u8]) -> Result<&str, Fault>
+    ensures { OrFault Fault.Name (GoodName field.now → ⊥) (λ s. GoodName field.now × (s.now ≡ field.now)) result }
 {
-    if field.len() == 0 || field[0] == b'#' || !printable(field) {
-        return None;
+    if field.is_empty() || field[0] == b'#' || !printable(field) {
+        return Err(Fault::Name);
     }
-    // ASCII is always UTF-8, so that no name is lost here.
-    match std::str::from_utf8(field) {
-        Ok(name) => Some(name),
-        Err(_) => None,
-    }
-}
-
-// The hash of that name, all of which is compared.
-pub(crate) fn read_hash(field: &[u8]) -> Option<HashName>
-    ensures { MatchOption result ((h : HashName) → field.now ≢ hash_word h) (λ h. field.now ≡ hash_word h) }
-{
-    if same(field, b"fnv1a64") {
-        Some(HashName::Fnv1a64)
-    } else if same(field, b"sha256") {
-        Some(HashName::Sha256)
-    } else {
-        None
-    }
+    // ASCII is always UTF-8.
+    Ok(std::str::from_utf8(field).unwrap())
 }
 
 // One byte in hex, a star, and how many times it comes.
@@ -99,12 +67,8 @@ fn read_repeat(field: &[u8]) -> Option<(u8, usize)>
     let [hi, lo, b'*', digits @ ..] = field else {
         return None;
     };
-    let Some(byte) = hex_byte(*hi, *lo) else {
-        return None;
-    };
-    let Some(count) = number(digits, 7) else {
-        return None;
-    };
+    let byte = hex_byte(*hi, *lo)?;
+    let count = number(digits, 7)?;
     Some((byte, count))
 }
 
@@ -113,44 +77,27 @@ pub(crate) fn read_message<'a>(form: &[u8], field: &'a [u8]) -> Result<Message<'
     requires { Lacks 9 field.now }
     ensures { ReadMessage form.now field.now result }
 {
-    if same(form, b"text") {
-        Ok(Message::Text(field))
-    } else if same(form, b"hex") {
-        if is_hex(field) {
-            Ok(Message::Hex(field))
-        } else {
-            Err(Fault::Message)
+    match form {
+        b"text" => Ok(Message::Text(field)),
+        b"hex" if is_hex(field) => Ok(Message::Hex(field)),
+        b"hex" => Err(Fault::Message),
+        b"repeat" => {
+            let (byte, count) = read_repeat(field).ok_or(Fault::Message)?;
+            Ok(Message::Repeat { byte, count })
         }
-    } else if same(form, b"repeat") {
-        match read_repeat(field) {
-            Some((byte, count)) => Ok(Message::Repeat { byte, count }),
-            None => Err(Fault::Message),
-        }
-    } else {
-        Err(Fault::Form)
-    }
-}
-
-// How many bytes the digests of a hash have.
-fn digest_len(hash: HashName) -> usize
-    ensures { result ≡ hash_width hash }
-{
-    match hash {
-        HashName::Fnv1a64 => Fnv1a64::digest_len(),
-        HashName::Sha256 => Sha256::digest_len(),
+        _ => Err(Fault::Form),
     }
 }
 
 // A digest of that hash, in hex.
-pub(crate) fn read_digest(hash: HashName, field: &[u8]) -> Option<Digest>
-    ensures { MatchOption result ((bytes : List ℕ) → DigestField hash field.now bytes → ⊥) (λ d. DigestField hash field.now (digest_bytes d)) }
+pub(crate) fn read_digest(hash: HashName, field: &[u8]) -> Result<Digest, Fault>
+    ensures { OrFault Fault.Digest ((bytes : List ℕ) → DigestField hash field.now bytes → ⊥) (λ d. DigestField hash field.now (digest_bytes d)) result }
 {
+    // no heap here, and a digest has 32 bytes at most
     let mut buffer = [0u8; 32];
-    let Some(count) = decode_hex(field, &mut buffer) else {
-        return None;
-    };
-    if count != digest_len(hash) {
-        return None;
+    let count = decode_hex(field, &mut buffer).ok_or(Fault::Digest)?;
+    if count != hash.digest_len() {
+        return Err(Fault::Digest);
     }
-    Digest::new(&buffer[0..count])
+    Digest::new(&buffer[0..count]).ok_or(Fault::Digest)
 }

@@ -1,8 +1,42 @@
+ghost use Rattle.std.specs.Prelude.{◌≡◌};
+ghost use Rattle.vector_files.specs.Vectors.{NamesHash, hash_width};
+
+use hashes::RunningHash;
+use hashes::fnv::Fnv1a64;
+use sha256::running::Sha256;
+
 // The hashes that a vector can be of.
-#[derive(Clone, Copy)]
+#[derive(Clone, Copy, PartialEq, Eq, Debug)]
 pub enum HashName {
     Fnv1a64,
     Sha256,
+}
+
+impl HashName {
+    // How many bytes the digests of the hash have. A `match` by name, since a hash is a type here, and no value to call.
+    pub(crate) fn digest_len(self) -> usize
+        ensures { result ≡ hash_width self }
+    {
+        match self {
+            HashName::Fnv1a64 => Fnv1a64::digest_len(),
+            HashName::Sha256 => Sha256::digest_len(),
+        }
+    }
+}
+
+// The hash of that word, all of which is compared.
+impl TryFrom<&[u8]> for HashName {
+    type Error = Fault;
+
+    ghost try_from_gives = { λ word r. NamesHash word.now r };
+
+    fn try_from(word: &[u8]) -> Result<HashName, Fault> {
+        match word {
+            b"fnv1a64" => Ok(HashName::Fnv1a64),
+            b"sha256" => Ok(HashName::Sha256),
+            _ => Err(Fault::Hash),
+        }
+    }
 }
 
 // A message as its vector writes it: as the bytes themselves, in hex, or as one byte so many times.
@@ -19,6 +53,7 @@ pub struct Vector<'a> {
     pub name: &'a str,
     pub hash: HashName,
     pub message: Message<'a>,
+    // no `Digest`: a caller may put any bytes here, and the check tells whether they are a digest's text
     pub expected: &'a [u8],
 }
 

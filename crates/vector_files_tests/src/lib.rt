@@ -18,10 +18,7 @@ mod tests {
     use vector_files::vector::Fault;
 
     fn fault_of(line: &[u8]) -> Option<Fault> {
-        match read_vector(line) {
-            Ok(_) => None,
-            Err(fault) => Some(fault),
-        }
+        read_vector(line).err()
     }
 
     #[test]
@@ -97,17 +94,15 @@ mod tests {
 
     #[test]
     fn one_byte_too_long(rt: HostRuntime) -> Result<(), Fail> {
-        let Ok(vector) = read_vector(b"a\tfnv1a64\trepeat\t61*3\tcbf29ce484222325") else {
-            return Err(Fail::new("not read"));
-        };
+        let vector = read_vector(b"a\tfnv1a64\trepeat\t61*3\tcbf29ce484222325").map_err(
+            |_| Fail::new("not read"),
+        )?;
         let mut buffer = [0u8; 2];
-        match check_vector(vector, &mut buffer) {
-            Ok(_) => Err(Fail::new("not too long")),
-            Err(fault) => {
-                assert_eq!(rt; fault, Fault::TooLong);
-                Ok(())
-            },
-        }
+        assert_eq!(rt;
+            check_vector(vector, &mut buffer).err(),
+            Some(Fault::TooLong)
+        );
+        Ok(())
     }
 
     fn add_record(text: &mut Vec<u8>, record: Record) -> Result<(), AllocError> {

@@ -1,4 +1,3 @@
 pub mod Single
-pub mod Tallies
 pub mod Sole
 pub mod Progress

@@ -5,8 +5,7 @@ use Rattle.vector_files.specs.declared.entry.Entry.{Entry}
 use Rattle.vector_reports.specs.Reports.{Says}
 use Rattle.vector_files.specs.Records.{Examined, Found, none_counted, counted, record_line, tally_line}
 use Rattle.vector_reports.specs.Reports.{ends, next, Report, FileReport}
-use Rattle.vector_files.specs.declared.record.Finding.{Finding}
-use Rattle.vector_files.specs.declared.record.Finding.TheVariants.{Checked, Malformed}
+use Rattle.vector_files.specs.declared.check.Report as found
 use Rattle.vector_files.specs.declared.record.Record.{Record}
 use Rattle.vector_files.specs.declared.vector.Fault.{Fault}
 use Rattle.vector_files.specs.declared.vector.Vector.{Vector}
@@ -16,10 +15,10 @@ use Rattle.vector_files.specs.declared.tally.Tally.{Tally}
 pub said : {e : Entry} {old new : List ℕ} {r : Record} → Examined e old new r → Says (length old) e.vector r.name.now r.finding
 said {e} {old} {new} {r} x = by e.vector r.finding x.found
   where
-    by : (v : Result Vector Fault) (f : Finding) → Found v old new r.name.now f → Says (length old) v r.name.now f
+    by : (v : Result Vector Fault) (f : Result found.Report Fault) → Found v old new r.name.now f → Says (length old) v r.name.now f
     by (Err k) f (a, b, _) = (a, b)
-    by (Ok v) (Checked p) (n, (bytes, m, front, q)) = (n, (bytes, m, front.fits, q))
-    by (Ok v) (Malformed k) (n, (p, _)) = (n, p)
+    by (Ok v) (Ok p) (n, (bytes, m, front, q)) = (n, (bytes, m, front.fits, q))
+    by (Ok v) (Err k) (n, (p, _)) = (n, p)
 
 -- this text and whatever is still to be reported are the report on the file
 pub record Reported (room : ℕ) (file so_far : List ℕ) (passed : ℕ) (left : List ℕ) (t : Tally) : Type 0 where

@@ -20,8 +20,6 @@ use Rattle.vector_reports.specs.Reports.{Recorded, ends, next, with_records, One
 use Rattle.vector_files.specs.declared.check.Outcome.{Outcome}
 use Rattle.vector_files.specs.declared.check.Outcome.TheVariants.{Agrees, Differs}
 use Rattle.vector_files.specs.declared.check.Report as found
-use Rattle.vector_files.specs.declared.record.Finding.{Finding}
-use Rattle.vector_files.specs.declared.record.Finding.TheVariants.{Checked, Malformed}
 use Rattle.vector_files.specs.declared.record.Record.{Record}
 use Rattle.vector_files.specs.declared.tally.Tally.{Tally}
 
@@ -62,15 +60,15 @@ one_outcome Differs Agrees P Q f g x y = absurd (x (g y))
 one_outcome Differs Differs P Q f g x y = refl
 
 -- Findings that are written and counted alike.
-pub record Alike (name other : List ℕ) (f g : Finding) : Type 0 where
+pub record Alike (name other : List ℕ) (f g : Result found.Report Fault) : Type 0 where
   pub line : (n : ℕ) → finding_line n name f ≡ finding_line n other g
   pub count : (t : Tally) → counted t f ≡ counted t g
 
-alike_malformed : (name other : List ℕ) (f g : Fault) → f ≡ g → Alike name other (Malformed f) (Malformed g)
-alike_malformed name other f g e = record { line = λ n. ap (λ (k : Fault). finding_line n [] (Malformed k)) e; count = λ t. refl }
+alike_malformed : (name other : List ℕ) (f g : Fault) → f ≡ g → Alike name other (Err f) (Err g)
+alike_malformed name other f g e = record { line = λ n. ap (λ (k : Fault). finding_line n [] (Err k)) e; count = λ t. refl }
 
 alike_checked : (name other : List ℕ) (r s : found.Report) → name ≡ other → r.length ≡ s.length → digest_bytes r.digest ≡ digest_bytes s.digest
-    → r.outcome ≡ s.outcome → Alike name other (Checked r) (Checked s)
+    → r.outcome ≡ s.outcome → Alike name other (Ok r) (Ok s)
 alike_checked name other r s e f g h = record {
   line = λ n i. line (e i ∷ (decimal (f i) ∷ (hex (g i) ∷ (word_of_outcome (h i) ∷ []))));
   count = λ t. ap (counted_outcome t) h;
@@ -98,7 +96,7 @@ module _ (room : ℕ) (v w : Vector) (same : SameWhole v w) where
   one_message a b m n = one_meaning w.message a b (means_forth a m) n
 
   both_checked : (a b : List ℕ) (r s : found.Report) → Means v.message a → Means w.message b → Reports v a r → Reports w b s
-      → Alike v.name.now w.name.now (Checked r) (Checked s)
+      → Alike v.name.now w.name.now (Ok r) (Ok s)
   both_checked a b r s m n p q =
       let e = one_message a b m n in
       let d : hashed v.hash a ≡ hashed w.hash b = ap (λ (h : HashName). hashed h a) same.hash ∙ ap (hashed w.hash) e in
@@ -129,21 +127,21 @@ module _ (room : ℕ) (v w : Vector) (same : SameWhole v w) where
   one_fault f g (no_message _ _ (too_long a m _)) (no_message _ _ (no_bytes none)) = absurd (none a (means_forth a m))
   one_fault f g (no_message _ _ (too_long _ _ _)) (no_message _ _ (too_long _ _ _)) = refl
 
-  one_finding : (name other : List ℕ) (f g : Finding) → Says room (Ok v) name f → Says room (Ok w) other g → Alike name other f g
-  one_finding name other (Checked r) (Checked s) (e, (a, m, _, p)) (k, (b, n, _, q)) =
-      subst (λ (x : List ℕ). Alike x other (Checked r) (Checked s)) (sym e)
-      (subst (λ (x : List ℕ). Alike v.name.now x (Checked r) (Checked s)) (sym k) (both_checked a b r s m n p q))
-  one_finding name other (Checked r) (Malformed g) (_, (a, m, fits, p)) (_, n) = absurd (checkable a r g m fits p n)
-  one_finding name other (Malformed f) (Checked s) (_, n) (_, (b, m, fits, q)) = absurd (checkable_back b s f m fits q n)
-  one_finding name other (Malformed f) (Malformed g) (_, x) (_, y) = alike_malformed name other f g (one_fault f g x y)
+  one_finding : (name other : List ℕ) (f g : Result found.Report Fault) → Says room (Ok v) name f → Says room (Ok w) other g → Alike name other f g
+  one_finding name other (Ok r) (Ok s) (e, (a, m, _, p)) (k, (b, n, _, q)) =
+      subst (λ (x : List ℕ). Alike x other (Ok r) (Ok s)) (sym e)
+      (subst (λ (x : List ℕ). Alike v.name.now x (Ok r) (Ok s)) (sym k) (both_checked a b r s m n p q))
+  one_finding name other (Ok r) (Err g) (_, (a, m, fits, p)) (_, n) = absurd (checkable a r g m fits p n)
+  one_finding name other (Err f) (Ok s) (_, n) (_, (b, m, fits, q)) = absurd (checkable_back b s f m fits q n)
+  one_finding name other (Err f) (Err g) (_, x) (_, y) = alike_malformed name other f g (one_fault f g x y)
 
 -- readings that say the same are recorded alike
-one_saying : (room : ℕ) (a b : Result Vector Fault) (name other : List ℕ) (f g : Finding) → SameReading a b → Says room a name f → Says room b other g → Alike name other f g
+one_saying : (room : ℕ) (a b : Result Vector Fault) (name other : List ℕ) (f g : Result found.Report Fault) → SameReading a b → Says room a name f → Says room b other g → Alike name other f g
 one_saying room (Ok v) (Ok w) name other f g same x y = one_finding room v w same name other f g x y
 one_saying room (Ok v) (Err k) name other f g same x y = absurd same
 one_saying room (Err h) (Ok w) name other f g same x y = absurd same
 one_saying room (Err h) (Err k) name other f g same (x, _) (y, _) =
-    subst (λ (z : Finding). Alike name other z g) (sym x) (subst (λ (z : Finding). Alike name other (Malformed h) z) (sym y) (alike_malformed name other h k same))
+    subst (λ (z : Result found.Report Fault). Alike name other z g) (sym x) (subst (λ (z : Result found.Report Fault). Alike name other (Err h) z) (sym y) (alike_malformed name other h k same))
 
 -- the lines of records, and their count behind any tally
 abbrev lines_of : List Record → List ℕ

@@ -1,5 +1,5 @@
 -- The report on a file: a line for each record, in order, and the line of their tally.
-use Rattle.std.specs.Prelude.{◌≡◌, ℕ, ◌+◌, ◌-◌, ◌^◌, ◌≤◌, min, List, [], ◌∷◌, ◌++◌, map, length, Some, None, Ok, Err, fold, Option, Result}
+use Rattle.std.specs.Prelude.{◌≡◌, ℕ, ◌≤◌, List, [], ◌∷◌, ◌++◌, map, length, Some, None, Ok, Err, fold, Option, Result}
 use Rattle.std.specs.List.{concat}
 use Rattle.vector_files.specs.Checks.{Reports, NotChecked}
 use Rattle.vector_files.specs.Vectors.{Means}
@@ -7,21 +7,18 @@ use Rattle.vector_files.specs.declared.vector.Fault.{Fault}
 use Rattle.vector_files.specs.declared.vector.Vector.{Vector}
 use Rattle.vector_files.specs.Entries.{NextEntry}
 use Rattle.vector_files.specs.declared.entry.Entry.{Entry}
-use Rattle.vector_files.specs.declared.check.Outcome.{Outcome}
-use Rattle.vector_files.specs.declared.check.Outcome.TheVariants.{Agrees, Differs}
-use Rattle.vector_files.specs.declared.record.Finding.{Finding}
-use Rattle.vector_files.specs.declared.record.Finding.TheVariants.{Checked, Malformed}
+use Rattle.vector_files.specs.declared.check.Report as found
 use Rattle.vector_files.specs.declared.record.Record.{Record}
 use Rattle.vector_files.specs.declared.tally.Tally.{Tally}
 use Rattle.vector_files.specs.Records.{Examined, none_counted, counted, record_line, tally_line}
 
 -- what is said of a line that was read, where a message may have so many bytes: the name of its vector, and what was found.
 -- A line that cannot be checked has no name.
-abbrev pub Says : ℕ → Result Vector Fault → List ℕ → Finding → Type 0
-Says room (Err f) name finding = (finding ≡ Malformed f) × (name ≡ [])
-Says room (Ok v) name (Checked r) =
+abbrev pub Says : ℕ → Result Vector Fault → List ℕ → Result found.Report Fault → Type 0
+Says room (Err f) name finding = (finding ≡ Err f) × (name ≡ [])
+Says room (Ok v) name (Ok r) =
     (name ≡ v.name.now) × ((bytes : List ℕ) × Means v.message bytes × (length bytes ≤ room) × Reports v bytes r)
-Says room (Ok v) name (Malformed f) = (name ≡ []) × NotChecked v room f
+Says room (Ok v) name (Err f) = (name ≡ []) × NotChecked v room f
 
 -- The record of the next entry of a text, and the buffer of its message before and after; at the end of the text there is none,
 -- and the buffer stays.
@@ -60,38 +57,3 @@ OneReport =
 -- a file has a report, and its tally has no vector that differs or is malformed
 abbrev pub AllOk : ℕ → List ℕ → Type 0
 AllOk room file = (lines : List ℕ) × (end : Tally) × FileReport room file lines end × (end.differ ≡ 0) × (end.malformed ≡ 0)
-
--- how many of the findings are of a kind
-abbrev pub how_many : (Finding → ℕ) → List Finding → ℕ
-how_many kind [] = 0
-how_many kind (f ∷ fs) = kind f + how_many kind fs
-
-abbrev pub agreeing : Outcome → ℕ
-agreeing Agrees = 1
-agreeing Differs = 0
-
-abbrev pub differing : Outcome → ℕ
-differing Agrees = 0
-differing Differs = 1
-
-abbrev pub is_agreeing : Finding → ℕ
-is_agreeing (Checked r) = agreeing r.outcome
-is_agreeing (Malformed f) = 0
-
-abbrev pub is_different : Finding → ℕ
-is_different (Checked r) = differing r.outcome
-is_different (Malformed f) = 0
-
-abbrev pub is_malformed : Finding → ℕ
-is_malformed (Checked r) = 0
-is_malformed (Malformed f) = 1
-
--- a number as far as 64 bits go
-abbrev pub capped : ℕ → ℕ
-capped n = min n (2 ^ 64 - 1)
-
--- however many findings are counted, one after the other, the tally has how many there are, and how many of each kind
-abbrev pub TallyLaw : Type 0
-TallyLaw =
-    (fs : List Finding) → fold counted none_counted fs
-    ≡ record { vectors = capped (length fs); ok = capped (how_many is_agreeing fs); differ = capped (how_many is_different fs); malformed = capped (how_many is_malformed fs) }

@@ -2,15 +2,13 @@
 ghost use Rattle.std.specs.Prelude.{◌≡◌, ℕ, ◌^◌, ◌<◌, List, length};
 ghost use Rattle.std.specs.Option.{SomeIff};
 ghost use Rattle.texts.specs.Buffers.{Written};
-ghost use Rattle.vector_files.specs.Records.{checked_line, record_line, tally_line};
-ghost use Rattle.vector_reports.specs.Reports.{TallyLaw};
+ghost use Rattle.vector_files.specs.Records.{record_line, tally_line};
+ghost use Rattle.vector_files.specs.Tallies.{TallyLaw};
 
 use refusals::Refusal;
 use texts::writer::line_len;
-use vector_files::check::Report;
-use vector_files::record::{Finding, Record};
+use vector_files::record::Record;
 use vector_files::tally::Tally;
-use vector_files::write::{checked_fields, malformed_fields};
 
 // What has a line in the report.
 pub trait ReportLine {
@@ -26,20 +24,12 @@ pub trait ReportLine {
         ensures { Written (text self.now) out.old out.new result };
 }
 
-fn checked_len<'a>(name: &'a str, report: &'a Report) -> Option<usize>
-    ensures { SomeIff result (length (checked_line name.now report.now) < 2 ^ 64) (length (checked_line name.now report.now)) }
-{
-    line_len(&checked_fields(name, report))
-}
-
+// One text for both lines would need their number of fields in the trait and in each bound, and be no plainer.
 impl ReportLine for Record<'_> {
     ghost text = { λ r. record_line r };
 
     fn line_len(&self) -> Option<usize> {
-        match self.finding {
-            Finding::Checked(report) => checked_len(self.name, &report),
-            Finding::Malformed(fault) => line_len(&malformed_fields(self.line, fault)),
-        }
+        line_len(&Record::fields(self))
     }
 
     fn write_line(&self, out: &mut [u8]) -> Result<usize, Refusal> {
@@ -51,7 +41,7 @@ impl ReportLine for Tally {
     ghost text = { λ t. tally_line t };
 
     fn line_len(&self) -> Option<usize> {
-        line_len(&self.fields())
+        line_len(&Tally::fields(self))
     }
 
     // The law says what a tally has after any list of findings.

@@ -14,8 +14,6 @@ pub fn next_record<'a>(reader: &mut Reader<'a>, messages: &mut [u8]) -> Option<R
     ensures entries { EntryLaw }
     ensures reports { OneReport }
 {
-    match next_entry(reader) {
-        Some(entry) => Some(examine(entry, messages)),
-        None => None,
-    }
+    let entry = next_entry(reader)?;
+    Some(examine(entry, messages))
 }

@@ -16,17 +16,16 @@ use vector_reports::record::next_record;
 // How long a message may be.
 const MESSAGE_ROOM: usize = 1_048_576;
 
-// Puts a line behind the text. Its own buffer has just its length, so that it is never too short; a line whose length 64 bits
-// do not hold asks for more memory than there can be.
-fn add_line<L: ReportLine>(heap: Global, text: &mut Vec<u8>, line: &L) -> Result<(), AllocError>
+// Puts a line behind the text, which grows by just its length, so that there is never too little room; a line whose length
+// 64 bits do not hold asks for more memory than there can be.
+fn add_line<L: ReportLine>(text: &mut Vec<u8>, line: &L) -> Result<(), AllocError>
     ensures { IfOk result (λ _. text.new.items ≡ text.old.items ++ L.text line.now) }
 {
+    let start = text.len();
     let length = line.line_len().unwrap_or(usize::MAX);
-    let mut buffer = vec![in heap; 0u8; length]?;
-    match line.write_line(buffer.as_mut_slice()) {
-        Ok(_) => text.extend_from_slice(buffer.as_slice()),
-        Err(_) => unreachable(),
-    }
+    text.resize(start.saturating_add(length), 0)?;
+    line.write_line(&mut text[start..]).unwrap();
+    Ok(())
 }
 
 // The report on a file of vectors, and its tally.
@@ -39,9 +38,9 @@ fn report(heap: Global, file: &[u8]) -> Result<(Vec<u8>, Tally), AllocError>
     let mut reader = Reader::over(file);
     while let Some(record) = next_record(&mut reader, messages.as_mut_slice()) {
         tally.count(record.finding);
-        add_line(heap, &mut text, &record)?;
+        add_line(&mut text, &record)?;
     }
-    add_line(heap, &mut text, &tally)?;
+    add_line(&mut text, &tally)?;
     Ok((text, tally))
 }
 

@@ -19,7 +19,7 @@ loop-record-preserved c =
       long = held.long;
       reported =
           reported c.in-Some.ensures.next.0 c.in-Some.record held.reported c.in-Some.ensures.next.1
-          (omega (arith, held.long, c.as_mut_slice.ensures.len)) examined.line (said examined) c.count.ensures c.in_ok-add_line.ensures;
+          (omega (arith, held.long, c.as_mut_slice.ensures.len)) examined.line (said examined) c.count.ensures.one_more c.in_ok-add_line.ensures;
     }
 
 pub returns : goal.returns

@@ -1,12 +1,10 @@
-use Rattle.std.proofs.Common.{arith}
-use Rattle.vector_files.proofs.Names.{next, last, stops}
+use Rattle.std.proofs.Common.{rules, tests}
+use Rattle.std.proofs.lemmas.Iterator.{cases_from_all, YieldsList-from_slice}
+use Rattle.vector_files.specs.Vectors.{Printable}
+use Rattle.vector_files.proofs.Names.{decided}
 use Rattle.vector_files.proofs.fields.printable.Goals as goal
 
-pub returns-then-b-lt32 : goal.returns-then-b-lt32
-returns-then-b-lt32 c = stops c.args.s.now c.loop-b.b-index (omega arith) (λ low high. omega arith)
-
-pub loop-b-preserved : goal.loop-b-preserved
-loop-b-preserved c = next c.args.s.now c.loop-b.b-index (omega arith) (omega arith) (omega arith) c.loop-b.invariant
-
 pub returns : goal.returns
-returns c = last c.args.s.now c.loop-b.b-index (omega arith) c.loop-b.invariant
+returns c =
+    decided c.args.s.now _
+    (cases_from_all _ _ _ Printable (λ b. Printable b → ⊥) c.all.ensures.ran (YieldsList-from_slice c.args.s.now cc) (λ x q k. search (rules, tests)) (λ x q k. search (rules, tests)))

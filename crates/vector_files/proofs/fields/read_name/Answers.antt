@@ -1,5 +1,5 @@
-use Rattle.vector_files.proofs.Names.{text}
+use Rattle.vector_files.proofs.Names.{read}
 use Rattle.vector_files.proofs.fields.read_name.Goals as goal
 
-pub returns-in-Err : goal.returns-in-Err
-returns-in-Err c good = c.in-Err.ensures.cases.0 (text c.args.field.now good.printable)
+pub unwrap-requires : goal.unwrap-requires
+unwrap-requires c = read c.args.field.now _ _ _ c.from_utf8.ensures.cases (c.printable.ensures.0 c.if-not-printable.false)

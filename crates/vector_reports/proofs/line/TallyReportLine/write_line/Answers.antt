@@ -1,4 +1,4 @@
-use Rattle.vector_reports.proofs.Tallies.{tally_law}
+use Rattle.vector_files.proofs.Tallies.{tally_law}
 use Rattle.vector_reports.proofs.line.TallyReportLine.write_line.Goals as goal
 
 pub returns-clause-counts : goal.returns-clause-counts

@@ -1,18 +1,18 @@
 -- Findings counted one after the other.
-use Rattle.std.proofs.Common.{◌≡◌, ℕ, suc, ◌+◌, ◌-◌, ◌^◌, ◌≤◌, List, [], ◌∷◌, length, fold, ◌∙◌, arith}
+use Rattle.std.proofs.Common.{◌≡◌, ℕ, suc, ◌+◌, ◌-◌, ◌^◌, ◌≤◌, List, [], ◌∷◌, length, fold, Ok, Err, Result, ◌∙◌, arith}
 use Rattle.vector_files.specs.declared.check.Outcome.{Outcome}
 use Rattle.vector_files.specs.declared.check.Outcome.TheVariants.{Agrees, Differs}
-use Rattle.vector_files.specs.declared.record.Finding.{Finding}
-use Rattle.vector_files.specs.declared.record.Finding.TheVariants.{Checked, Malformed}
+use Rattle.vector_files.specs.declared.check.Report.{Report}
+use Rattle.vector_files.specs.declared.vector.Fault.{Fault}
 use Rattle.vector_files.specs.declared.tally.Tally.{Tally}
 use Rattle.vector_files.specs.Records.{one_more, none_counted, counted, counted_outcome}
-use Rattle.vector_reports.specs.Reports.{how_many, agreeing, differing, is_agreeing, is_different, is_malformed, capped, TallyLaw}
+use Rattle.vector_files.specs.Tallies.{how_many, agreeing, differing, is_agreeing, is_different, is_malformed, capped, TallyLaw}
 
 abbrev four : ℕ → ℕ → ℕ → ℕ → Tally
 four a b c d = record { vectors = a; ok = b; differ = c; malformed = d }
 
 -- the tally after these findings
-abbrev then : Tally → List Finding → Tally
+abbrev then : Tally → List (Result Report Fault) → Tally
 then t fs = four (capped (t.vectors + length fs)) (capped (t.ok + how_many is_agreeing fs)) (capped (t.differ + how_many is_different fs)) (capped (t.malformed + how_many is_malformed fs))
 
 record Small (t : Tally) : Type 0 where
@@ -35,7 +35,7 @@ numbers : (x n : ℕ) → capped (one_more x + n) ≡ capped (x + suc n)
 numbers x n = omega arith
 
 -- what holds after any findings, holds after a finding and those
-module _ (fs : List Finding) (rest : (t : Tally) → Small t → fold counted t fs ≡ then t fs) (t : Tally) (s : Small t) where
+module _ (fs : List (Result Report Fault)) (rest : (t : Tally) → Small t → fold counted t fs ≡ then t fs) (t : Tally) (s : Small t) where
   outcome : (o : Outcome)
       → fold counted (counted_outcome t o) fs
       ≡ four (capped (t.vectors + suc (length fs))) (capped (t.ok + (agreeing o + how_many is_agreeing fs))) (capped (t.differ + (differing o + how_many is_different fs))) (capped (t.malformed + (0 + how_many is_malformed fs)))
@@ -46,13 +46,13 @@ module _ (fs : List Finding) (rest : (t : Tally) → Small t → fold counted t 
       rest (counted_outcome t Differs) (record { vectors = omega arith; ok = s.ok; differ = omega arith; malformed = s.malformed })
       ∙ (λ i. four (numbers t.vectors (length fs) i) (passes t.ok (how_many is_agreeing fs) i) (counts t.differ (how_many is_different fs) i) (passes t.malformed (how_many is_malformed fs) i))
 
-  finding : (f : Finding) → fold counted (counted t f) fs ≡ then t (f ∷ fs)
-  finding (Checked r) = outcome r.outcome
-  finding (Malformed k) =
-      rest (counted t (Malformed k)) (record { vectors = omega arith; ok = s.ok; differ = s.differ; malformed = omega arith })
+  finding : (f : Result Report Fault) → fold counted (counted t f) fs ≡ then t (f ∷ fs)
+  finding (Ok r) = outcome r.outcome
+  finding (Err k) =
+      rest (counted t (Err k)) (record { vectors = omega arith; ok = s.ok; differ = s.differ; malformed = omega arith })
       ∙ (λ i. four (numbers t.vectors (length fs) i) (passes t.ok (how_many is_agreeing fs) i) (passes t.differ (how_many is_different fs) i) (counts t.malformed (how_many is_malformed fs) i))
 
-counting : (fs : List Finding) (t : Tally) → Small t → fold counted t fs ≡ then t fs
+counting : (fs : List (Result Report Fault)) (t : Tally) → Small t → fold counted t fs ≡ then t fs
 counting [] t s = λ i. four (stays t.vectors s.vectors i) (stays t.ok s.ok i) (stays t.differ s.differ i) (stays t.malformed s.malformed i)
 counting (f ∷ fs) t s = finding fs (counting fs) t s f
 
