@@ -2,7 +2,8 @@ ghost use Rattle.std.specs.Prelude.{◌≤◌};
 
 // A digest of 1 to 32 bytes: the first `width` bytes of the array.
 // A buffer and a length: a digest is copied and takes no heap, and a const length would stand in every type that holds one.
-// No `Model`: a copy needs its fields back from what clauses see, so each unused byte would have to be proved 0.
+// No `Model`, by which `==` could be derived: a copy needs its fields back from what clauses see, so each unused byte would
+// have to be proved 0.
 #[derive(Clone, Copy)]
 pub struct Digest {
     bytes: [u8; 32],
@@ -15,7 +16,8 @@ impl Digest {
     ghost use Rattle.std.specs.Prelude.{◌≡◌, length, MatchOption};
     ghost use Rattle.hashes.specs.Digests.{DigestLength, digest_bytes};
 
-    // The digest with these bytes; absent for no bytes and for more than 32.
+    // The digest with these bytes; absent for no bytes and for more than 32. A `TryFrom` would be a second name
+    // for it, and no plainer.
     pub fn new(bytes: &[u8]) -> Option<Digest>
         ensures { MatchOption result (DigestLength (length bytes.now) → ⊥) (λ d. DigestLength (length bytes.now) × (digest_bytes d ≡ bytes.now)) }
     {
@@ -37,7 +39,8 @@ impl Digest {
     }
 }
 
-// Two digests are equal when their bytes are. By hand: the unused bytes of the array do not count.
+// Two digests are equal when their bytes are. By hand: the unused bytes of the array do not count, and the edit
+// `equal_to_itself` is planted in the body.
 impl PartialEq for Digest {
     ghost use Rattle.std.specs.Prelude.{◌≡◌, Decides, nat_eq};
     ghost use Rattle.std.specs.Ordering.{on};

@@ -1,5 +1,4 @@
 // The lines of a record, by a writer that has room for them.
-ghost use Rattle.std.specs.Prelude.{◌≤◌, length};
 ghost use Rattle.texts.specs.Lines.{field_text};
 ghost use Rattle.texts.specs.Writers.{Puts, Room};
 ghost use Rattle.recordings.specs.Recordings.{recordings};

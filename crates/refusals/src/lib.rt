@@ -41,7 +41,8 @@ pub enum Refusal {
 }
 
 impl Refusal {
-    // The number that stands for this case, and for no other. A `From` would only be a second name for it.
+    // The number that stands for this case, and for no other. A `From` would be a second name for it, and no
+    // plainer.
     pub fn number(self) -> u8
         ensures is { result ≡ number_of self }
         ensures listed { Listed result }
@@ -91,7 +92,7 @@ impl TryFrom<u8> for Refusal {
     }
 }
 
-// By hand: a derive promises as much but shows no clause, and the edit `equality` is planted in this body.
+// By hand, by a rule of the project: the edit `equality` has to stay, and a derive has no body to plant it in.
 impl PartialEq for Refusal {
     ghost eq = { on number_of nat_eq };
 

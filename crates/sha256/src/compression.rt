@@ -94,7 +94,7 @@ impl Progress {
         }
     }
 
-    // Sixteen rounds, with all words of the window.
+    // Sixteen rounds, with all words of the window. Inlined for the same reason.
     #[inline(always)]
     fn quarter(self, k: &[u32; 16]) -> Progress
         ensures state { result.state ≡ rounds self.state k.now (window_words self.window) }
@@ -108,8 +108,8 @@ impl Progress {
     }
 }
 
-// The hash value after one block more. As a loop over the rows of K it is a tenth slower, since that works out the words
-// after the last round too.
+// The hash value after one block more. As a loop over K, four constants at a time, it is a tenth slower, since that works out
+// the words after the last round too.
 pub fn compress(s: State, block: &[u8; 64]) -> State
     ensures { result ≡ compressed s block.now }
 {

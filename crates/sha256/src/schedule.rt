@@ -6,7 +6,7 @@ ghost use Rattle.sha256.specs.Windows.{window_words};
 use crate::words::small_sigma;
 use std::simd::prelude::*;
 
-// Sixteen words of the message schedule in a row.
+// Sixteen words of the message schedule in a row. Four fields and no array: a proof then knows that each has four words.
 #[derive(Clone, Copy)]
 pub struct Window {
     pub x0: u32x4,

@@ -6,7 +6,7 @@ use std::simd::prelude::*;
 
 // Three operations where the standard's form has four.
 #[tactic(auto, using(crate::proofs::Forms::ch_is))]
-pub fn choice(x: u32, y: u32, z: u32) -> u32
+pub(crate) fn choice(x: u32, y: u32, z: u32) -> u32
     ensures { result ≡ ch x y z }
 {
     z ^ (x & (y ^ z))
@@ -14,14 +14,14 @@ pub fn choice(x: u32, y: u32, z: u32) -> u32
 
 // `x ^ y` is the next round's `y ^ z`, so the compiler can work it out once.
 #[tactic(auto, using(crate::proofs::Forms::maj_is))]
-pub fn majority(x: u32, y: u32, z: u32) -> u32
+pub(crate) fn majority(x: u32, y: u32, z: u32) -> u32
     ensures { result ≡ maj x y z }
 {
     y ^ ((x ^ y) & (y ^ z))
 }
 
 // The standard's Σ0 and Σ1, by their three rotations.
-pub fn big_sigma<const A: u32, const B: u32, const C: u32>(x: u32) -> u32
+pub(crate) fn big_sigma<const A: u32, const B: u32, const C: u32>(x: u32) -> u32
     requires { (0 < A) × (A < 32) × (0 < B) × (B < 32) × (0 < C) × (C < 32) }
     ensures { result ≡ bit_xor (bit_xor (rotr A x) (rotr B x)) (rotr C x) }
 {
@@ -37,7 +37,7 @@ fn rotated<const N: u32>(x: u32x4) -> u32x4
 }
 
 // The standard's σ0 and σ1 in each lane, by their two rotations and their shift.
-pub fn small_sigma<const A: u32, const B: u32, const C: u32>(x: u32x4) -> u32x4
+pub(crate) fn small_sigma<const A: u32, const B: u32, const C: u32>(x: u32x4) -> u32x4
     requires { (0 < A) × (A < 32) × (0 < B) × (B < 32) × (C < 32) }
     ensures { result ≡ map (λ w. bit_xor (bit_xor (rotr A w) (rotr B w)) (shr C w)) x }
 {

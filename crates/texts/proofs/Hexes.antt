@@ -1,4 +1,4 @@
-use Rattle.std.proofs.Common.{◌≡◌, ℕ, zero, suc, ◌+◌, ◌*◌, ◌/◌, ◌%◌, ◌<◌, ◌≢◌, Bool, true, false, List, [], ◌∷◌, length, get_or, drop, Decides, sym, refl, ap, ◌∙◌, subst, arith, rules}
+use Rattle.std.proofs.Common.{◌≡◌, ℕ, zero, suc, ◌+◌, ◌*◌, ◌/◌, ◌%◌, ◌<◌, ◌≢◌, Bool, true, false, List, [], ◌∷◌, length, get_or, drop, is_some, Some, None, Option, MatchOption, Decides, sym, refl, ap, ◌∙◌, subst, arith, rules}
 use Rattle.std.specs.Char.{digit_char}
 use Rattle.std.proofs.lemmas.List.{drop_more}
 use Rattle.texts.specs.Cuts.{Lacks}
@@ -70,6 +70,14 @@ pub next_byte : (s bs d : List ℕ) (pairs : List (List ℕ)) (i b : ℕ) → Pa
 next_byte s bs d pairs i b p h w one =
     let e = same_bytes _ (b ∷ []) (get_or bs i 0 ∷ []) one (pair_at s bs d pairs i p h w) in
     drop_more bs i 0 (omega (arith, p.many, length_of_hex s bs w)) ∙ ap (λ (x : ℕ). x ∷ drop (i + 1) bs) (sym (cc))
+
+-- a pair that writes a byte is decoded, to that byte
+pub some_byte : (p : List ℕ) (b : ℕ) (r : Option ℕ) → MatchOption r (WritesNone p) (Writes p) → Writes p b → is_some r ≡ true
+some_byte p b (Some x) m w = refl
+some_byte p b None m w = absurd (m b w)
+
+pub the_byte : (p : List ℕ) (b : ℕ) (r : Option ℕ) → MatchOption r (WritesNone p) (Writes p) → r ≡ Some b → Writes p b
+the_byte p b r m e = subst (λ (o : Option ℕ). MatchOption o (WritesNone p) (Writes p)) e m
 
 hex_of_pairs : (k : ℕ) (s : List ℕ) → length s ≡ k * 2 → AllByRecursion WritesOne (first_chunks 2 k s) → IsHex s
 hex_of_pairs zero [] e a = ([], record { bytes = tt; written = refl })

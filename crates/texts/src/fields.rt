@@ -9,7 +9,8 @@ pub fn cut(s: &[u8], byte: u8) -> Option<(&[u8], &[u8])>
     Some((&s[..at], &s[at + 1..]))
 }
 
-// Whether two byte strings are the same.
+// Whether two byte strings are the same. No crate here calls it; by a rule of the project public
+// calls stay.
 pub fn same(a: &[u8], b: &[u8]) -> bool
     ensures { Decides result (a.now ≡ b.now) }
 {

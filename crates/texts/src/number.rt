@@ -10,15 +10,12 @@ fn digit(byte: u8) -> Option<u8>
     byte.checked_sub(b'0').filter(|d| *d < 10)
 }
 
-// The number that a field of at most so many digits writes.
+// The number that a field of at most so many digits writes. By hand: `parse` takes a sign and leading
+// zeros, and to refuse these first would be no plainer.
 pub fn number(s: &[u8], max_digits: usize) -> Option<usize>
     ensures { MatchOption result ((n : ℕ) → Numeral max_digits n s.now → ⊥) (λ n. Numeral max_digits n s.now) }
 {
-    if s.is_empty()
-        || s.len() > max_digits
-        || s.len() > SAFE_DIGITS
-        || (s[0] == b'0' && s.len() > 1)
-    {
+    if s.is_empty() || s.len() > max_digits || s.len() > SAFE_DIGITS || matches!(s, [b'0', _, ..]) {
         return None;
     }
     let mut n = 0;

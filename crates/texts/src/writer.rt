@@ -18,7 +18,8 @@ pub enum Field<'a> {
     Hex(&'a [u8]),
 }
 
-// A buffer of the caller's, and the place in it up to which it is written.
+// A buffer of the caller's, and the place in it up to which it is written: a slice of the free part alone would not tell how
+// much is written.
 #[derive(Drop)]
 pub struct Writer<'a> {
     out: &'a mut [u8],

@@ -102,6 +102,7 @@ impl Digests {
 }
 
 impl HashName {
+    // A `match` by name, since a hash is a type here, and no value to call: no plainer otherwise.
     fn digests(self, bytes: &[u8]) -> Digests
         ensures { BothAre (hashed self bytes.now) result }
     {

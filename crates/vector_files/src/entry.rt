@@ -1,8 +1,8 @@
 // The entries of a file: its lines that are no remarks.
-ghost use Rattle.std.specs.Prelude.{Decides};
 ghost use Rattle.texts.specs.Readers.{left_of, passed_of};
-ghost use Rattle.vector_files.specs.Entries.{NextEntry, Remark};
+ghost use Rattle.vector_files.specs.Entries.{NextEntry};
 
+use crate::fields::is_remark;
 use crate::read::read_vector;
 use crate::vector::{Fault, Vector};
 use texts::reader::Reader;
@@ -12,12 +12,6 @@ use texts::reader::Reader;
 pub struct Entry<'a> {
     pub line: usize,
     pub vector: Result<Vector<'a>, Fault>,
-}
-
-fn is_remark(line: &[u8]) -> bool
-    ensures { Decides result (Remark line.now) }
-{
-    matches!(line, [] | [b'#', ..])
 }
 
 // The next entry, past all remarks; absent at the end of the text.

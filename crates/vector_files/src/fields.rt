@@ -3,6 +3,7 @@ ghost use Rattle.std.specs.Prelude.{◌≡◌, ℕ, List, Decides, MatchOption};
 ghost use Rattle.std.specs.List.{AllByRecursion};
 ghost use Rattle.texts.specs.Cuts.{Lacks};
 ghost use Rattle.hashes.specs.Digests.{digest_bytes};
+ghost use Rattle.vector_files.specs.Entries.{Remark};
 ghost use Rattle.vector_files.specs.Tabs.{Five};
 ghost use Rattle.vector_files.specs.Vectors.{Printable, Repeats, GoodName, OrFault, ReadMessage, DigestField};
 
@@ -42,6 +43,13 @@ pub(crate) fn five_fields(line: &[u8]) -> Option<Fields<'_>>
     })
 }
 
+// Whether a line is no entry.
+pub(crate) fn is_remark(line: &[u8]) -> bool
+    ensures { Decides result (Remark line.now) }
+{
+    matches!(line, [] | [b'#', ..])
+}
+
 // Whether all bytes are printable characters of ASCII.
 fn printable(s: &[u8]) -> bool
     ensures { Decides result (AllByRecursion Printable s.now) }
@@ -53,7 +61,7 @@ fn printable(s: &[u8]) -> bool
 pub(crate) fn read_name(field: &[u8]) -> Result<&str, Fault>
     ensures { OrFault Fault.Name (GoodName field.now → ⊥) (λ s. GoodName field.now × (s.now ≡ field.now)) result }
 {
-    if field.is_empty() || field[0] == b'#' || !printable(field) {
+    if is_remark(field) || !printable(field) {
         return Err(Fault::Name);
     }
     // ASCII is always UTF-8.

@@ -63,7 +63,8 @@ impl Tally {
         ]
     }
 
-    // Writes the line of the tally at the front of the buffer, and answers its length.
+    // Writes the line of the tally at the front of the buffer, and answers its length. Kept beside the one of a record: they have
+    // 8 and 4 fields, and one text for both would need that count in a trait and be no plainer.
     pub fn write(&self, out: &mut [u8]) -> Result<usize, Refusal>
         ensures { Written (tally_line self.now) out.old out.new result }
     {

@@ -13,7 +13,8 @@ pub enum HashName {
 }
 
 impl HashName {
-    // How many bytes the digests of the hash have. A `match` by name, since a hash is a type here, and no value to call.
+    // How many bytes the digests of the hash have. A `match` by name, since a hash is a type here, and no value to call:
+    // no plainer otherwise.
     pub(crate) fn digest_len(self) -> usize
         ensures { result ≡ hash_width self }
     {

@@ -1,4 +1,4 @@
-// The fields of a record's line, in words where it is no number and no digest.
+// The fields of a record's line, and the words in them.
 ghost use Rattle.std.specs.Prelude.{◌≡◌};
 ghost use Rattle.texts.specs.Lines.{line_of};
 ghost use Rattle.vector_files.specs.Records.{word_of_outcome, words_of_fault, checked_line, malformed_line};
@@ -7,7 +7,7 @@ use crate::check::{Outcome, Report};
 use crate::vector::Fault;
 use texts::writer::Field;
 
-// No `Display`: these words are fields of a line, and no text here is one.
+// No `Display`, by a rule of the project: these words become a field of a line.
 impl Outcome {
     fn word(self) -> &'static str
         ensures { result.now ≡ word_of_outcome self }
@@ -19,6 +19,7 @@ impl Outcome {
     }
 }
 
+// Neither are these a `Display`.
 impl Fault {
     fn words(self) -> &'static str
         ensures { result.now ≡ words_of_fault self }
@@ -36,7 +37,8 @@ impl Fault {
     }
 }
 
-// The fields of a checked vector's line.
+// The fields of a checked vector's line. Two parameters, by a rule of the project: public calls stay. `Record::fields` takes both
+// from the record.
 pub fn checked_fields<'a>(name: &'a str, report: &'a Report) -> [Field<'a>; 4]
     ensures { line_of result ≡ checked_line name.now report.now }
 {
@@ -48,7 +50,7 @@ pub fn checked_fields<'a>(name: &'a str, report: &'a Report) -> [Field<'a>; 4]
     ]
 }
 
-// The fields of the line of a line that holds no vector.
+// The fields of the line of a line that holds no vector. Two parameters, for the same reason.
 pub fn malformed_fields<'a>(number: usize, fault: Fault) -> [Field<'a>; 4]
     ensures { line_of result ≡ malformed_line number fault }
 {

@@ -6,7 +6,7 @@
 mod tests {
     use refusals::Refusal;
     use sha256::running::Sha256;
-    use std::alloc::{AllocError, Global};
+    use std::alloc::Global;
     use std::test::Fail;
     use texts::hex::decode_hex;
     use texts::reader::Reader;
@@ -105,16 +105,15 @@ mod tests {
         Ok(())
     }
 
-    fn add_record(text: &mut Vec<u8>, record: Record) -> Result<(), AllocError> {
+    fn add_record(text: &mut Vec<u8>, record: Record) -> Result<(), Fail> {
         let mut line = [0u8; 64];
-        match record.write(&mut line) {
-            Ok(length) => text.extend_from_slice(&line[0..length]),
-            Err(_) => Ok(()),
-        }
+        let length = record.write(&mut line).map_err(|_| Fail::new("refused"))?;
+        text.extend_from_slice(&line[..length])?;
+        Ok(())
     }
 
-    // What is printed of a file of at most nine entries.
-    fn printed(heap: Global, file: &[u8], buffer: &mut [u8]) -> Result<Vec<u8>, AllocError> {
+    // What is printed of a file of at most nine entries; the `for` bounds the loop, so that it is seen to end.
+    fn printed(heap: Global, file: &[u8], buffer: &mut [u8]) -> Result<Vec<u8>, Fail> {
         let mut reader = Reader::over(file);
         let mut tally = Tally::new();
         let mut text = Vec::new(heap);
@@ -126,9 +125,8 @@ mod tests {
             }
         }
         let mut line = [0u8; 64];
-        if let Ok(length) = tally.write(&mut line) {
-            text.extend_from_slice(&line[0..length])?;
-        }
+        let length = tally.write(&mut line).map_err(|_| Fail::new("refused"))?;
+        text.extend_from_slice(&line[..length])?;
         Ok(text)
     }
 

@@ -1,5 +1,5 @@
 // The lines of the report: one for each record, and the last one for the tally.
-ghost use Rattle.std.specs.Prelude.{◌≡◌, ℕ, ◌^◌, ◌<◌, List, length};
+ghost use Rattle.std.specs.Prelude.{ℕ, ◌^◌, ◌<◌, List, length};
 ghost use Rattle.std.specs.Option.{SomeIff};
 ghost use Rattle.texts.specs.Buffers.{Written};
 ghost use Rattle.vector_files.specs.Records.{record_line, tally_line};
@@ -24,7 +24,7 @@ pub trait ReportLine {
         ensures { Written (text self.now) out.old out.new result };
 }
 
-// One text for both lines would need their number of fields in the trait and in each bound, and be no plainer.
+// One impl for both kinds of line would need the number of their fields in the trait and in each bound, and be no plainer.
 impl ReportLine for Record<'_> {
     ghost text = { λ r. record_line r };
 

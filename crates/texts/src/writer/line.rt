@@ -1,4 +1,4 @@
-ghost use Rattle.std.specs.Prelude.{◌≡◌, ◌+◌, ◌^◌, ◌<◌, ◌≤◌, map, length};
+ghost use Rattle.std.specs.Prelude.{◌^◌, ◌<◌, map, length};
 ghost use Rattle.std.specs.Option.{SomeIff};
 ghost use Rattle.texts.specs.Buffers.{WrittenAt, Written};
 ghost use Rattle.texts.specs.Lines.{behind, field_text, line_of};
@@ -78,7 +78,8 @@ impl Writer<'_> {
 }
 
 // Writes the line of these fields into the buffer from a place on, and answers the place behind it.
-// A line that does not fit leaves the buffer alone. Buffer and place are two parameters for callers that keep a place.
+// A line that does not fit leaves the buffer alone. Kept beside the writer: by a rule of the project public
+// calls stay.
 pub fn write_line(fields: &[Field], out: &mut [u8], at: usize) -> Option<usize>
     ensures { WrittenAt out.old at (line_of fields.now) out.new result }
 {

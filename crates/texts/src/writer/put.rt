@@ -1,6 +1,6 @@
-// Single texts, written where a buffer has room for them. By hand, since no text here is a `Display`: one that does not fit
-// has to be refused and leave the buffer alone, and a `fmt` promises nothing where it stops.
-ghost use Rattle.std.specs.Prelude.{◌≡◌, ◌/◌, ◌<◌, ◌≤◌, [], ◌∷◌, length, decimal};
+// Single texts, written where a buffer has room for them: no text here is a `Display`, since one that does not fit has to be
+// refused and leave the buffer alone, and a `fmt` promises nothing where it stops.
+ghost use Rattle.std.specs.Prelude.{◌≡◌, ◌<◌, ◌≤◌, [], ◌∷◌, length, decimal};
 ghost use Rattle.std.specs.Char.{digit_char};
 ghost use Rattle.texts.specs.Hex.{hex};
 ghost use Rattle.texts.specs.Lines.{field_text};
@@ -26,16 +26,11 @@ impl Writer<'_> {
         self.place += 1;
     }
 
-    // A number has at most 20 digits, so that the recursion stays shallow.
     fn put_number(&mut self, n: usize)
         requires { Room self.old (decimal n) }
         ensures { Puts self.old (decimal n) self.new }
     {
-        if n < 10 {
-            return self.put_byte(b'0' + n as u8);
-        }
-        self.put_number(n / 10);
-        self.put_byte(b'0' + (n % 10) as u8);
+        self.put(itoa::Buffer::new().format(n).as_bytes());
     }
 
     fn put_hex(&mut self, bytes: &[u8])
@@ -60,6 +55,8 @@ impl Writer<'_> {
     }
 }
 
+// By hand: `from_digit` gives a `char`, to be turned back into a byte, which is no plainer; and the kit's `hex` cannot be used in
+// a crate with a module of that name, which is public here.
 fn hex_character(half: u8) -> u8
     requires { half < 16 }
     ensures { result ≡ digit_char half }
