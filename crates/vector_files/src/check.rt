@@ -27,7 +27,8 @@ pub struct Report {
     pub outcome: Outcome,
 }
 
-// Puts the bytes that a message stands for at the front of a buffer, and answers how many they are.
+// Puts the bytes that a message stands for at the front of a buffer, and answers how many they are. Two arms test the length:
+// over `get_mut` and `?`, which was tried, the proof of what becomes of the buffer did not close.
 pub fn expand(message: Message, buffer: &mut [u8]) -> Result<usize, Fault>
     ensures { Expanded message.entry buffer.old buffer.new result }
 {
