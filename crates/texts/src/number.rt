@@ -7,7 +7,7 @@ const SAFE_DIGITS: usize = 19;
 fn digit(byte: u8) -> Option<u8>
     ensures { MatchOption result ((d : ℕ) → d < 10 → byte ≢ 48 + d) (λ d. (d < 10) × (byte ≡ 48 + d)) }
 {
-    byte.checked_sub(b'0').filter(|d| *d < 10)
+    Some(byte.wrapping_sub(b'0')).filter(|d| *d < 10)
 }
 
 // The number that a field of at most so many digits writes. By hand: `parse` takes a sign and leading

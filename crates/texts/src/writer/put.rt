@@ -37,10 +37,9 @@ impl Writer<'_> {
         requires { Room self.old (hex bytes.now) }
         ensures { Puts self.old (hex bytes.now) self.new }
     {
-        for byte in bytes {
-            self.put_byte(hex_character(*byte / 16));
-            self.put_byte(hex_character(*byte % 16));
-        }
+        let end = self.place + 2 * bytes.len();
+        fill_hex(&mut self.out[self.place..end], bytes);
+        self.place = end;
     }
 
     pub(super) fn put_field(&mut self, field: Field)
@@ -65,6 +64,18 @@ fn hex_character(half: u8) -> u8
         b'0' + half
     } else {
         b'a' + (half - 10)
+    }
+}
+
+// Fills a buffer with the hex of these bytes, by a writer of its own: behind a reference, its place would be stored for each byte.
+fn fill_hex(out: &mut [u8], bytes: &[u8])
+    requires { length out.old ≡ length (hex bytes.now) }
+    ensures { out.new ≡ hex bytes.now }
+{
+    let mut writer = Writer::over(out);
+    for byte in bytes {
+        writer.put_byte(hex_character(*byte / 16));
+        writer.put_byte(hex_character(*byte % 16));
     }
 }
 
