@@ -63,9 +63,10 @@ pub fn digest_in_pieces<H: RunningHash>(bytes: &[u8]) -> Digest
     let mut hash = H::fresh();
     let mut rest = bytes;
     for size in 1..bytes.len() {
-        let Some((piece, behind)) = rest.split_at_checked(size) else {
+        if size >= rest.len() {
             break;
-        };
+        }
+        let (piece, behind) = rest.split_at(size);
         hash.absorb(piece);
         rest = behind;
     }
