@@ -1,4 +1,4 @@
-use Rattle.std.proofs.Common.{◌≡◌, ◌*◌, ℕ, drop, ap, ◌∙◌, arith}
+use Rattle.std.proofs.Common.{◌≡◌, ◌*◌, ℕ, drop, ap, ◌∙◌, arith, rules}
 use Rattle.std.proofs.lemmas.List.{take_rest}
 use Rattle.recordings.proofs.Cuts.{length-recordings, only_cut, first_chunk}
 use Rattle.recordings.proofs.recording.Goals as goal
@@ -19,8 +19,8 @@ pub returns-clause-value : goal.returns-clause-value
 returns-clause-value c =
     let library = c.args.library.now in
     let from : c.in_ok-checked_mul.field-0 ≡ c.args.number * 4096 = grind arith in
-    let begins = c.all.ensures.rest ∙ c.in_ok-rest.ensures.lookup.0.2 ∙ take_rest library _ ∙ ap (λ (k : ℕ). drop k library) from in
-    first_chunk library c.args.number c.all.result c.next.new.self c.next.result c.all.ensures.size begins c.next.ensures.steps
+    let begins = c.in_ok-rest.ensures.lookup.0.2 ∙ take_rest library _ ∙ ap (λ (k : ℕ). drop k library) from in
+    first_chunk library c.args.number _ c.next.new.self c.next.result (search rules) (search rules ∙ begins) c.next.ensures.steps
 
 pub returns-clause-cut : goal.returns-clause-cut
 returns-clause-cut c = only_cut c.args.library.now
