@@ -1,3 +1,6 @@
+// A path that was public before: what it held stands beside the struct now.
+pub mod calls {}
+
 ghost use Rattle.std.specs.Prelude.{◌≤◌};
 
 // A digest of 1 to 32 bytes: the first `width` bytes of the array.
