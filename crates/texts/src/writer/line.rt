@@ -38,7 +38,8 @@ pub fn line_len(fields: &[Field]) -> Option<usize>
 }
 
 impl Writer<'_> {
-    // What stands behind the first field.
+    // What stands behind the first field. Inlined like the single texts, for the same reason.
+    #[inline(always)]
     fn put_behind(&mut self, fields: &[Field])
         requires { Room self.old (behind (map field_text fields.now)) }
         ensures { Puts self.old (behind (map field_text fields.now)) self.new }
@@ -50,6 +51,7 @@ impl Writer<'_> {
         self.put_byte(b'\n');
     }
 
+    #[inline(always)]
     fn put_line(&mut self, fields: &[Field])
         requires { Room self.old (line_of fields.now) }
         ensures { Puts self.old (line_of fields.now) self.new }

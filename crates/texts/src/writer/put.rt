@@ -1,5 +1,7 @@
 // Single texts, written where a buffer has room for them: no text here is a `Display`, since one that does not fit has to be
 // refused and leave the buffer alone, and a `fmt` promises nothing where it stops.
+// Inlined down to a single byte: where the writer is a local value, its place then stays in a register, and is not stored
+// behind a reference for each text.
 ghost use Rattle.std.specs.Prelude.{◌≡◌, ◌<◌, ◌≤◌, [], ◌∷◌, length, decimal};
 ghost use Rattle.std.specs.Char.{digit_char};
 ghost use Rattle.texts.specs.Hex.{hex};
@@ -9,6 +11,7 @@ ghost use Rattle.texts.specs.Writers.{Puts, Room};
 use super::{Field, Writer};
 
 impl Writer<'_> {
+    #[inline(always)]
     fn put(&mut self, bytes: &[u8])
         requires { Room self.old bytes.now }
         ensures { Puts self.old bytes.now self.new }
@@ -18,6 +21,7 @@ impl Writer<'_> {
         self.place = end;
     }
 
+    #[inline(always)]
     pub(crate) fn put_byte(&mut self, byte: u8)
         requires { Room self.old (byte ∷ []) }
         ensures { Puts self.old (byte ∷ []) self.new }
@@ -42,6 +46,7 @@ impl Writer<'_> {
         self.place = end;
     }
 
+    #[inline(always)]
     pub(super) fn put_field(&mut self, field: Field)
         requires { Room self.old (field_text field) }
         ensures { Puts self.old (field_text field.entry) self.new }
